@@ -13,7 +13,7 @@ from schema_versions import make_database
 from tree import DEB, Done, output, run
 
 pytestmark = pytest.mark.package
-KNOWN = 5
+KNOWN = 6
 AN_INDEX = "CREATE INDEX vouchers_by_sale ON portal_vouchers (sold);"
 A_TABLE = "CREATE TABLE gift (id INTEGER PRIMARY KEY, code TEXT REFERENCES {} (code));"
 # What hinders nothing: an index that the program makes, tables of others, and what looks at tables of the program.
@@ -82,7 +82,7 @@ def taken(venue: Venue) -> str:
     return done.stderr
 
 
-@pytest.mark.parametrize("version", (1, 2, 3, 4))
+@pytest.mark.parametrize("version", (1, 2, 3, 4, 5))
 def test_what_others_put_on_our_tables(venue: Venue, version: int) -> None:
     venue.database(version, AN_INDEX)
     refused(venue, "the index vouchers_by_sale is on portal_vouchers")
@@ -100,7 +100,7 @@ def test_names_in_other_letters(venue: Venue) -> None:
 def test_how_to_take_it_off(venue: Venue) -> None:
     path = venue.database(4, AN_INDEX)
     words = venue.run().stderr
-    assert str(path) in words and "DROP INDEX" in words and '"An upgrade to schema version 5"' in words, (
+    assert str(path) in words and "DROP INDEX" in words and '"An upgrade to schema version 6"' in words, (
         f"the database is named, and how to take an index off  [{words}]")
 
 
@@ -116,21 +116,22 @@ def test_what_is_in_the_log_alone(venue: Venue) -> None:
 
 def test_what_hinders_nothing(venue: Venue) -> None:
     venue.database(4, HARMLESS)
-    assert "(schema version 5, 0 MB)" in taken(venue), "tables of others that do not refer to the program's are kept"
+    assert "(schema version 6, 0 MB)" in taken(venue), "tables of others that do not refer to the program's are kept"
 
 
 def test_no_migration(venue: Venue) -> None:
-    venue.database(5, AN_INDEX, A_TABLE.format("portal_vouchers"))
+    with contextlib.closing(sqlite3.connect(venue.database(6))) as base:
+        base.executescript(f"{AN_INDEX} {A_TABLE.format('portal_vouchers')}")
     assert taken(venue) == "", "a database of this schema version is not migrated, and nothing is said"
 
 
 def test_later_version(venue: Venue) -> None:
-    venue.database(5, "UPDATE portal_head SET layout = 6")
-    (venue.folder / "schema").write_text("6\n")
-    refused(venue, "has schema version 6, and this program knows none after 5")
+    venue.database(6, "UPDATE portal_head SET layout = 7")
+    (venue.folder / "schema").write_text("7\n")
+    refused(venue, "has schema version 7, and this program knows none after 6")
 
 
-@pytest.mark.parametrize(("version", "times"), ((4, 5), (5, 3)))
+@pytest.mark.parametrize(("version", "times"), ((4, 5), (5, 5), (6, 3)))
 def test_room(venue: Venue, version: int, times: int) -> None:
     size = -(-venue.database(version).stat().st_size // 1024)
     venue.free = times * size + 2048 - 1
@@ -159,7 +160,7 @@ def test_how_long(venue: Venue) -> None:
     path = venue.database(4)
     for size, seconds in ((15, 25), (90, 660)):
         os.truncate(path, size << 20)
-        assert f"(schema version 5, {size} MB): guests and counters wait for up to {seconds} seconds.\n" in taken(venue), (
+        assert f"(schema version 6, {size} MB): guests and counters wait for up to {seconds} seconds.\n" in taken(venue), (
             "ten seconds for the start, one for each MB, and 8 more for each beyond 20")
 
 

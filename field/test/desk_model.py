@@ -15,7 +15,8 @@ Json = dict[str, Any]
 SIGNS = "23456789ABCDEFGHJKMNPQRSTUVWXYZ"
 GREATEST, MOST_BYTES, MOST_GRANTS = 253_370_764_799, 9_000_000_000_000_000, 9_007_199_254_740_991
 ID = re.compile(r"[a-z0-9-]{1,32}")
-MOST_LISTED, MOST_FOUND = 20, 50        # batches in a list; vouchers found by the start of their codes
+# Batches in a list; vouchers found by the start of their codes; redemptions of a voucher.
+MOST_LISTED, MOST_FOUND, MOST_REDEMPTIONS = 20, 50, 100
 
 
 class No(Exception):
@@ -109,6 +110,7 @@ class Voucher:
     sold: int | None = None
     refund: int | None = None
     redeemed: int = 0
+    redemptions: list[tuple[int, int, bool]] = field(default_factory=list)     # when, the session, whether extended
 
 
 @dataclass
@@ -208,6 +210,13 @@ class Model:
         vouchers = [self.voucher_details(code) for code in codes[:MOST_FOUND]]
         return {"vouchers": vouchers, "more": MOST_FOUND < len(codes)}
 
+    def redemptions_of(self, code: str, at: int) -> Json:
+        """The last redemptions of the voucher with this code, the newest first, and whether there are more."""
+        listed = [(when, self.session(number), extended) for when, number, extended in self.voucher(code).redemptions]
+        entries = [{"at": when, "device": s.device, "extended": extended, "open": s.is_open(at), "session": s.number}
+                   for when, s, extended in reversed(listed)]
+        return {"redemptions": entries[:MOST_REDEMPTIONS], "more": MOST_REDEMPTIONS < len(entries)}
+
     def batch(self, name: str) -> Batch:
         """The batch of this id. No: there is none."""
         need(name in self.issues, "unknown_batch")
@@ -266,6 +275,7 @@ class Model:
             self.sessions.append(s)
             self.of_device[device] = s
         v.redeemed, self.grants = v.redeemed + 1, self.grants + 1
+        v.redemptions.append((at, s.number, open_one is not None))
         return {"extended": open_one is not None, "session": s.number, "uses_left": v.plan.uses - v.redeemed}
 
     def session(self, number: int) -> Session:

@@ -42,7 +42,8 @@ ROUTES = {  # path: of each method its caller and kind
     "/desk/batches/{}": {"GET": ("desk", "")}, "/desk/batches/{}/print": {"GET": ("desk", "")},
     "/desk/sales": {"POST": ("desk", "sell")}, "/desk/refunds": {"POST": ("desk", "refund")},
     "/desk/closes": {"POST": ("desk", "close")}, "/desk/vouchers": {"GET": ("desk", "")},
-    "/desk/vouchers/{}": {"GET": ("desk", "")}, "/desk/takings": {"GET": ("desk", "")},
+    "/desk/vouchers/{}": {"GET": ("desk", "")}, "/desk/vouchers/{}/redemptions": {"GET": ("desk", "")},
+    "/desk/takings": {"GET": ("desk", "")},
     "/gateway/reports": {"POST": ("gateway", "report")}, "/gateway/sessions": {"GET": ("gateway", "")},
     "/desk/sessions": {"GET": ("desk", "")}, "/desk/sessions/{}": {"GET": ("desk", "")},
     "/portal/session": {"GET": ("guest", "")}, "/gateway/sessions/details": {"GET": ("gateway", "")},
@@ -229,6 +230,8 @@ class StandIn:
             return "application/json", compact(self.answer_of_sessions(route, part, request, who, at))
         if route == "/desk/vouchers/{}":
             return "application/json", compact(model.voucher_details(read_code(part[0])))
+        if route == "/desk/vouchers/{}/redemptions":
+            return "application/json", compact(model.redemptions_of(read_code(part[0]), at))
         if route == "/desk/vouchers":
             return "application/json", compact(found_vouchers(model, request.query))
         if route == "/desk/batches":

@@ -98,7 +98,7 @@ def answers() -> dict[str, str | tuple[int, str]]:
             json.dumps([{"dst": "10.77.0.50", "lladdr": PHONE, "extern_learn": None, "state": ["PERMANENT"]}]),
         "nft -j list set inet portal alive": as_nft_prints("lan0"), "systemd-escape -- lan0": "lan0\n",
         "systemctl show ": as_systemd_prints(), "journalctl ": "", "uname -r": "6.1.0-28-amd64\n",
-        "/usr/bin/portal --version": "portal 1.0.0 (database schema version 5)\n", "nft --version": "nftables v1.0.6\n",
+        "/usr/bin/portal --version": "portal 1.0.0 (database schema version 6)\n", "nft --version": "nftables v1.0.6\n",
         "nginx -T": NGINX, "nginx -v": "nginx version: nginx/1.22.1\n", "dnsmasq --version": "Dnsmasq version 2.90  Copyright (c) 2000\n",
         "dpkg-query ": "portal 1.0.0 installed\npython3-nftables 1.0.6-2+deb12u2 installed\n"
                        "python3-pyroute2 0.7.2-2 installed\npython3-qrencode 1.2-5.1 installed\npython3-pil 9.4.0-1.1 installed\n"

@@ -77,8 +77,8 @@ class Described(unittest.TestCase):
 
     def test_the_table_of_routes(self) -> None:
         described = {(method.upper(), path) for path, item in self.api["paths"].items() for method in item}
-        self.assertEqual(len(described), 19)
-        self.assertEqual(len(Routes), 19)
+        self.assertEqual(len(described), 20)
+        self.assertEqual(len(Routes), 20)
         paths = {(method, PARAMETER.sub("{}", path)) for method, path in described}
         self.assertEqual(paths, {(route.method, route.path) for route in Routes})
         names = set()
@@ -162,6 +162,7 @@ class Described(unittest.TestCase):
             self.ask(desk, "desk", Routes.REFUND, body={"code": code})
         for code in (self.one, self.two, UNKNOWN, "x"):
             self.ask(desk, "desk", Routes.VOUCHER, code)
+            self.ask(desk, "desk", Routes.REDEMPTIONS, code)
         self.ask_of_batches(desk)
         for token in ("gateway", "desk"):
             self.ask(desk, token, Routes.SESSIONS)
@@ -182,7 +183,7 @@ class Described(unittest.TestCase):
             self.ask(desk, "desk", Routes.BATCH, batch)
         for prefix in (self.one[:4], UNKNOWN[:9], "x"):
             self.ask(desk, "desk", Routes.VOUCHERS, query={"prefix": prefix})
-        for route, part in ((Routes.BATCH_LIST, ()), (Routes.BATCH, ("b1",)), (Routes.VOUCHERS, ())):
+        for route, part in ((Routes.BATCH_LIST, ()), (Routes.BATCH, ("b1",)), (Routes.VOUCHERS, ()), (Routes.REDEMPTIONS, (UNKNOWN,))):
             self.ask(desk, "gateway", route, *part)
 
     def ask_of_sessions(self, desk: DeskProcess) -> None:

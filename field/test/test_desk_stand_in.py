@@ -4,7 +4,7 @@ import json
 import re
 import unittest
 
-from desk_model import with_check_character
+from desk_model import Json, with_check_character
 from desk_stand_in import StandIn
 
 SETTINGS = {"zone": "UTC0", "portal_url": "https://wifi.example/portal", "desk_token": "desk-token",
@@ -372,12 +372,65 @@ net -3.33
 
     def test_the_order_of_the_checks_of_these_questions(self) -> None:
         for target, allow in (("/desk/batches?limit=0", "GET, POST"), ("/desk/batches/B", "GET"),
-                              ("/desk/vouchers", "GET")):
+                              ("/desk/vouchers", "GET"), ("/desk/vouchers/x/redemptions", "GET")):
             head, text = self.raw(9, "PUT", target)
             self.assertEqual(text, '{"error":"bad_method"}', target)
             self.assertIn(f"\r\nAllow: {allow}\r\n", head, target)
             for fields in ((), ("Portal-Token: gate-token",), ("Portal-Token: desk-token",) * 2):
                 self.assertEqual(self.raw(9, "GET", target, "", *fields)[1], '{"error":"forbidden"}', target)
+
+    def redemption(self, at: int, device: str, session: int, extended: bool = False, is_open: bool = True) -> Json:
+        """A redemption, as the desk lists it."""
+        return {"at": at, "device": device, "extended": extended, "open": is_open, "session": session}
+
+    def redemptions(self, at: int, code: str) -> tuple[list[Json], bool]:
+        """The redemptions of a voucher as they are listed at a moment, and whether there are more."""
+        status, text = self.ask(at, "GET", f"/desk/vouchers/{code}/redemptions")
+        self.assertEqual(status, 200, text)
+        answer = json.loads(text)
+        return answer["redemptions"], answer["more"]
+
+    def test_the_redemptions_of_a_voucher_newest_first(self) -> None:
+        one, two, three = (f"02:00:00:00:00:{number:02}" for number in (1, 2, 3))
+        several, hour = *self.bought(1000, "gig", "b1"), *self.bought(1000, "hour", "b2")
+        self.assertEqual(self.redemptions(1000, several), ([], False))
+        for at, device in ((1100, one), (1200, two), (1300, three)):
+            self.assertEqual(self.redeem(at, several, device)[0], 200)
+        self.assertEqual(self.redeem(1300, hour, "02:00:00:00:00:04")[0], 200)
+        self.ask(1400, "POST", "/desk/closes", {"session": 2})
+        listed = [self.redemption(1300, three, 3), self.redemption(1200, two, 2, is_open=False), self.redemption(1100, one, 1)]
+        self.assertEqual(self.redemptions(1400, several), (listed, False))
+        self.assertEqual(self.ask(9, "GET", f"/desk/vouchers/{hour.lower()}/redemptions"), (
+            200, '{"more":false,"redemptions":[{"at":1300,"device":"02:00:00:00:00:04","extended":false,"open":true,"session":4}]}'))
+        self.assertEqual([self.redemptions(at, hour)[0][0]["open"] for at in (4899, 4900)], [True, False])
+
+    def test_a_redemption_extends_the_open_session_of_its_device(self) -> None:
+        first, second, third = (self.bought(1000, "hour", batch)[0] for batch in ("b1", "b2", "b3"))
+        device = "02:00:00:00:00:01"
+        for at, code in ((1000, first), (1000, second), (8200, third)):
+            self.assertEqual(self.redeem(at, code, device)[0], 200)
+        for code, at, session, extended, is_open in ((first, 1000, 1, False, False), (second, 1000, 1, True, False), (third, 8200, 2, False, True)):
+            self.assertEqual(self.redemptions(8200, code), ([self.redemption(at, device, session, extended, is_open)], False))
+
+    def test_a_hundred_redemptions_are_listed(self) -> None:
+        for count, more in ((99, False), (100, False), (101, True)):
+            self.setUp()
+            plan = {"id": "many", "price": 100, "uses": 101, "seconds": 60, "bytes": 0, "shelf_days": 1, "extend": True}
+            code = with_check_character([0] * 15)
+            self.desk.model.act("plans", {"plans": [plan]}, 1000)
+            self.desk.model.act("issue", {"batch": "b1", "plan": "many", "codes": [code]}, 1000)
+            self.desk.model.act("sell", {"code": code}, 1000)
+            for number in range(count):
+                self.desk.model.act("redeem", {"device": f"02:00:00:00:00:{number:02x}", "code": code}, 2000 + number)
+            listed, told = self.redemptions(3000, code)
+            self.assertEqual(([row["at"] for row in listed], told), ([2000 + number for number in reversed(range(count))][:100], more))
+
+    def test_the_redemptions_of_no_voucher(self) -> None:
+        for word, status, error in (("2222-2222-2222", 404, "unknown_code"), ("2222-2222-2223", 400, "bad_code"), ("x", 400, "bad_code")):
+            for tail in ("", "/redemptions"):
+                self.assertEqual(self.ask(9, "GET", f"/desk/vouchers/{word}{tail}"), (status, f'{{"error":"{error}"}}'))
+        for target in ("/desk/vouchers/2222-2222-2222/redemptions/", "/desk/vouchers//redemptions", "/desk/vouchers/2222-2222-2222/redeemed"):
+            self.assertEqual(self.ask(9, "GET", target), (404, '{"error":"no_route"}'), target)
 
     def test_a_numbered_request_acts_once(self) -> None:
         one, two, three = self.bought(1000, "hour", "b1", 3)

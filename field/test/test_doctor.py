@@ -415,10 +415,10 @@ class Base(Case):
             self.machine.says[line] = shown
             self.only_fault(base.versions, WRONG, word)
             self.machine.says[line] = before
-        self.machine.put("/var/lib/portal/schema", "5\n")
-        self.all_good(base.versions)
         self.machine.put("/var/lib/portal/schema", "6\n")
-        self.only_fault(base.versions, WRONG, "schema version 6", "none after 5")
+        self.all_good(base.versions)
+        self.machine.put("/var/lib/portal/schema", "7\n")
+        self.only_fault(base.versions, WRONG, "schema version 7", "none after 6")
 
 
 class Running(Case):

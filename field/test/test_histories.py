@@ -4,7 +4,7 @@ batches and vouchers, is what the model says.
     [FIELD_PORTAL=PROGRAM] [FIELD_QUESTIONS=batches] python3 -m unittest test_histories
 
 FIELD_QUESTIONS names the questions that are asked, `sessions` or `batches` (with those about vouchers by the
-first characters of their codes); without it both are.
+first characters of their codes, and about redemptions); without it both are.
 Of the program that FIELD_PORTAL names there are 300 histories over one server, 300 by a process for each request, and 300 over
 servers that are killed; of the stand-in, whose answers are the model's, there are a few.
 """
@@ -31,7 +31,7 @@ from collections import Counter
 from concurrent import futures
 from typing import Any, Protocol
 
-from desk_model import SIGNS, Json, Model, No, found_vouchers, in_groups, listed_batches
+from desk_model import SIGNS, Json, Model, No, found_vouchers, in_groups, listed_batches, read_code
 from desk_process import PORTAL, SETTINGS, DeskProcess, NoAnswer, Routes
 from fast_clock import FastClock
 from needs import lacks
@@ -57,11 +57,12 @@ LIKELY = {"redeem": 8, "report": 4, "close": 2, "refused": 1, "sell": 1, "refund
 NO_SESSION = ("0", "99999999", "9223372036854775807")
 # Each end of a session, and each answer to a question about batches or vouchers, is in some history.
 ENDS = {"null", "closed", "time", "bytes"}
-ANSWERS = {"unknown_batch", "bad_request", "bad_code", "true", "false", "none", "found", "sold", "refunded",
-           "used-up"}
+ANSWERS = {"unknown_batch", "unknown_code", "bad_request", "bad_code", "true", "false", "none", "found", "sold",
+           "refunded", "used-up", "not redeemed", "opened", "extended", "open", "over"}
 NO_BATCH = ("", "b-0", "b-00", "B-1", "b_1", "b-1%20", "b-99999999", "b" * 33)
 LIMITS = ("1", "20", "2", "3", "19", "07")
 BAD_LIMITS = ("", "0", "21", "100", "-1", "+1", "1x", "1.0", "%31", "9" * 30)
+NO_CODES = ("2222-2222-2222", "2222-2222-2223", "x", "2222%2D2222-2222", "2" * 13)
 BAD_STARTS = ("", "2", "22-2", "2220", "222I", "22L22", "2222%2D2", "2222+2", "2222.2", "2" * 16, "2" * 40)
 TOKENS = {"desk": "desk-token", "gateway": "gate-token"}
 
@@ -169,6 +170,7 @@ class Histories:
             self.ask(("number", str(words["session"])))
         if "code" in words and "batches" in QUESTIONS:
             self.ask(("batch", self.models[0].voucher(words["code"]).batch))
+            self.ask(("redemptions", words["code"]))
 
     def now(self) -> int:
         """The time before a request, where it may be sent again."""
@@ -194,8 +196,9 @@ class Histories:
         if kind in ("list of batches", "vouchers"):
             route = Routes.VOUCHERS if kind == "vouchers" else Routes.BATCH_LIST
             reply, _ = self.until_answered(route, query="?" + word if word else "")
-        elif kind in ("number", "batch"):
-            reply, _ = self.until_answered(Routes.BATCH if kind == "batch" else Routes.SESSION, word)
+        elif kind in ("number", "batch", "redemptions"):
+            routes = {"number": Routes.SESSION, "batch": Routes.BATCH, "redemptions": Routes.REDEMPTIONS}
+            reply, _ = self.until_answered(routes[kind], word)
         elif kind == "device":
             reply, _ = self.until_answered(Routes.LAST_SESSION, query="?device=" + self.draw.choice((word, word.upper(), word.replace(":", "-"))))
         elif kind == "own":
@@ -219,6 +222,13 @@ class Histories:
         self.ask(("batch", self.batch() if self.draw.random() < 0.8 else self.draw.choice(NO_BATCH[1:])))
         self.ask(("list of batches", self.query_of_batches()))
         self.ask(("vouchers", self.query_of_vouchers(self.draw.choice(codes))))
+        self.ask(("redemptions", self.spelling(self.draw.choice(codes))))
+
+    def spelling(self, code: str) -> str:
+        """A code as it may be typed, or sometimes one that is refused."""
+        if self.draw.random() < 0.1:
+            return self.draw.choice(NO_CODES)
+        return self.draw.choice((code, code.lower(), code.replace("-", ""), f"-{code}-"))
 
     def batch(self) -> str:
         """A batch: the first one, the last one, or another."""
@@ -288,6 +298,7 @@ class Histories:
             self.ask(("list of batches", query))
         for code in codes:
             self.ask(("vouchers", f"prefix={code[:self.draw.randint(4, 18)]}"))
+            self.ask(("redemptions", code))
 
     def check_sessions(self, devices: list[str]) -> None:
         """All questions about the sessions of a history."""
@@ -410,7 +421,9 @@ def seen_in(text: str) -> list[str]:
     """Which kinds of answers are in the text of one."""
     found = re.findall(r'"(?:ended|error|more)":"?([a-z_]+)', text)
     found += re.findall(r'"(sold|refunded|used-up)":[1-9][0-9]{0,2},', text)
-    lists = ("none", '"vouchers":[]'), ("found", '"vouchers":[{')
+    lists = [("none", '"vouchers":[]'), ("found", '"vouchers":[{'), ("not redeemed", '"redemptions":[]')]
+    lists += [("opened", '"extended":false,"open"'), ("extended", '"extended":true,"open"')]
+    lists += [("open", '"open":true,"session"'), ("over", '"open":false,"session"')]
     return found + [word for word, start in lists if start in text]
 
 
@@ -437,6 +450,8 @@ def answer_to(model: Model, kind: str, word: str, at: int) -> tuple[int, bytes]:
             return 200, compact(model.batch_details(word))
         if kind == "vouchers":
             return 200, compact(found_vouchers(model, word))
+        if kind == "redemptions":
+            return 200, compact(model.redemptions_of(read_code(word), at))
         sessions = model.open_sessions(at)
         return 200, compact({"sessions": [s.entry_with_terms(at) if kind == "details" else s.entry(at) for s in sessions]})
     except No as no:

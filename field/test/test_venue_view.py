@@ -15,24 +15,33 @@ import shutil
 import subprocess
 import sys
 import tempfile
+import unittest
 from typing import Any, ClassVar
 from unittest import mock
 
 from desk_process import FIELD, DeskProcess, Routes
 from needs import NEEDS, needs
 from own_postgres import OwnPostgres
+from schema_versions import LATER, VERSIONS, make_database
 
 from portal_field.backup.backup import held_still
-from portal_field.backup.copies import copy_both, fold
+from portal_field.backup.copies import BadCopy, copy_both, fold
 from portal_field.venues import collect, command, ending, report, table, view
 from portal_field.venues.collect import Collector, Result, key_of
 from portal_field.venues.places import BadVenue, Machine, Places
-from portal_field.venues.records import hidden
+from portal_field.venues.records import Head, hidden, read_records, time_of
 
 LINES = ('house = "House {0}"\nname = "wifi.example"\ncounter_name = "{0}.example"\nzone = "UTC0"\ndesk_port = {1}\n'
          'currency = "EUR"\n')
 DEVICES = "02:00:00:00:00:01", "02:00:00:00:00:02"
 TABLES = ("venue", "takings", "plan", "batch", "voucher", "session")
+KEY = b"a key"
+# The counters of the rows of schema_versions.py: three redemptions of one voucher and one of another; a session of two
+# gigabytes more, and one of an hour from 90000 on.
+REDEEMED = {"2222-2222-223N": 3, "4444-4444-444A": 1}
+COUNTERS = """
+INSERT INTO portal_counts SELECT code, CASE code WHEN '2222-2222-223N' THEN 3 WHEN '4444-4444-444A' THEN 1 ELSE 0 END FROM portal_vouchers;
+INSERT INTO portal_totals VALUES (1, NULL, 3000000000), (2, 93600, NULL);"""
 
 
 @needs("postgresql", "python3-psycopg", "util-linux", "openssl", *NEEDS["quick"])
@@ -511,3 +520,25 @@ class View(OwnPostgres):
         rows = list(csv.reader(io.StringIO(report.as_csv(self.machine, today, today))))
         self.assertEqual(rows[0], list(report.CSV_HEAD))
         self.assertEqual(rows[2], ["south", "House south", "EUR", str(today), str(sold), f"{sales / 100:.2f}", str(refunded), f"{refunds / 100:.2f}", net, "0"])
+
+
+class Versions(unittest.TestCase):
+    """Databases whose counters are tables of their own, and those where they are columns of what they count."""
+
+    def read(self, version: int) -> tuple[dict[bytes, int], dict[int, datetime.datetime | None], tuple[int, ...]] | str:
+        """How often each voucher was redeemed, and when each session ends; the sums. Or why it cannot be read."""
+        with tempfile.TemporaryDirectory() as folder:
+            path = pathlib.Path(folder) / "book.db"
+            make_database(path, version, LATER, COUNTERS)
+            try:
+                found = read_records(path, KEY, Head())
+            except BadCopy as fault:
+                return str(fault)
+        return ({row[0]: row[9] for row in found.rows["voucher"] if row[9]},
+                {row[0]: row[4] for row in found.rows["session"]}, found.sums)
+
+    def test_the_counters_of_each_schema_version_are_read(self) -> None:
+        redeemed = {hidden(KEY, "code", code): count for code, count in REDEEMED.items()}
+        for version in VERSIONS[1:]:
+            found = self.read(version)
+            self.assertEqual(found, (redeemed, {1: None, 2: time_of(93600)}, (3, 6, 5, 1, 500, 4, 2, 0)), version)

@@ -29,8 +29,8 @@ PHRASES = {
     501: "Not Implemented",
     503: "Service Unavailable",
 }
-GET_PATHS = ("/captive", "/portal/session", "/desk/batches/{}", "/desk/batches/{}/print", "/desk/vouchers", "/desk/vouchers/{}", "/desk/takings",
-             "/desk/sessions", "/desk/sessions/{}", "/gateway/sessions", "/gateway/sessions/details")
+GET_PATHS = ("/captive", "/portal/session", "/desk/batches/{}", "/desk/batches/{}/print", "/desk/vouchers", "/desk/vouchers/{}",
+             "/desk/vouchers/{}/redemptions", "/desk/takings", "/desk/sessions", "/desk/sessions/{}", "/gateway/sessions", "/gateway/sessions/details")
 DAYS = ("Mon", "Tue", "Wed", "Thu", "Fri", "Sat", "Sun")
 MONTHS = ("Jan", "Feb", "Mar", "Apr", "May", "Jun", "Jul", "Aug", "Sep", "Oct", "Nov", "Dec")
 MASKED = b"Date: (the clock's)"

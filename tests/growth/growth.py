@@ -75,6 +75,7 @@ def measure(desk, now, last, codes):
     times["batches"] = best(request("GET", "/desk/batches", DESK))
     times["batch"] = best(request("GET", "/desk/batches/b0", DESK))
     times["first characters"] = best(request("GET", f"/desk/vouchers?prefix={first[:4]}", DESK))
+    times["redemptions"] = best(request("GET", f"/desk/vouchers/{first}/redemptions", DESK))
     times["day"] = best(request("GET", f"/desk/takings?from={day(now)}&to={day(now)}", DESK), 5)
     times["year"] = best(request("GET", f"/desk/takings?from={day(now - YEAR)}&to={day(now)}", DESK), 5)
     return times

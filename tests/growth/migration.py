@@ -1,20 +1,23 @@
 #!/usr/bin/env -S python3 -B
-"""What a migration from schema version 4 takes: time, memory and room.
+"""What a migration from an older schema version takes: time, memory and room.
 
-migration.py PROGRAM [SIZE ..], with tests/outside, tests/cases and field/test in PYTHONPATH, makes a file of each size (see
-files.py; 10000, 100000 and hostel where none are named), gives it the tables of version 4, and has `portal check` open it
-twice: the first time it is migrated. It is no part of the gate. Python's standard library alone."""
+migration.py PROGRAM [SIZE ..] [--versions VERSION ..] [--folder FOLDER], with tests/outside, tests/cases and field/test in
+PYTHONPATH, makes a file of each size (see files.py; 10000, 100000 and hostel where none are named) in FOLDER, gives a copy
+of it the tables of each version (4 and 5 where none are named), and has `portal check` open that twice: the first time it
+is migrated. It is no part of the gate. Python's standard library alone."""
 
+import argparse
 import contextlib
 import os
+import shutil
 import sqlite3
 import subprocess
-import sys
 import tempfile
 import threading
 import time
 from pathlib import Path
 
+from desk import Desk
 from files import make, size_of
 from schema_versions import take_back
 
@@ -44,21 +47,40 @@ def check(desk, path):
     return used.ru_utime + used.ru_stime, clock, used.ru_maxrss << 10, most[0]
 
 
+def checkpoint(path):
+    with contextlib.closing(sqlite3.connect(path)) as base:
+        base.execute("PRAGMA wal_checkpoint(TRUNCATE)")
+
+
+def measure(desk, size, version):
+    """Has a file of an older version opened twice, and prints a line for each time."""
+    path = Path(desk.folder, "portal.db")
+    take_back(path, version)
+    checkpoint(path)                                    # (the log of what made it is no part of it)
+    for words in ("with a migration", "without"):
+        before = path.stat().st_size / 1e6
+        processor, clock, memory, most = check(desk, path)
+        print(f"{size.name:>9}  {version:>7}  {words:<16} {processor:>8.2f} s {clock:>7.2f} s {memory / 1e6:>5.0f} MB {before:>9.1f} MB"
+              f" {path.stat().st_size / 1e6:>6.1f} MB {most / 1e6:>6.1f} MB {os.getloadavg()[0]:>5.0f}", flush=True)
+
+
 def main():
-    program = str(Path(sys.argv[1]).resolve())
-    print(f"{'':>8}  {'opening':<16} {'processor':>10} {'clock':>9} {'memory':>8} {'file before':>12} {'after':>9} {'with log':>9}")
-    for size in map(size_of, sys.argv[2:] or ["10000", "100000", "hostel"]):
-        with tempfile.TemporaryDirectory() as folder:
-            desk, _ = make(program, size, folder)
-            path = Path(folder, "portal.db")
-            take_back(path)
-            with contextlib.closing(sqlite3.connect(path)) as base:     # (the log of what made it is no part of it)
-                base.execute("PRAGMA wal_checkpoint(TRUNCATE)")
-            for words in ("with a migration", "without"):
-                before = path.stat().st_size / 1e6
-                processor, clock, memory, most = check(desk, path)
-                print(f"{size.name:>8}  {words:<16} {processor:>8.2f} s {clock:>7.2f} s {memory / 1e6:>5.0f} MB"
-                      f" {before:>9.1f} MB {path.stat().st_size / 1e6:>6.1f} MB {most / 1e6:>6.1f} MB", flush=True)
+    words = argparse.ArgumentParser(description=__doc__, formatter_class=argparse.RawDescriptionHelpFormatter)
+    words.add_argument("program", type=Path)
+    words.add_argument("sizes", nargs="*", default=["10000", "100000", "hostel"], metavar="SIZE")
+    words.add_argument("--versions", nargs="+", type=int, choices=(4, 5), default=[4, 5], metavar="VERSION")
+    words.add_argument("--folder", help="for the files: a folder on a disk with room")
+    args = words.parse_intermixed_args()
+    print(f"{'':>9}  version  {'opening':<16} {'processor':>10} {'clock':>9} {'memory':>8} {'file before':>12} {'after':>9}"
+          f" {'with log':>9}  load")
+    for size in map(size_of, args.sizes):
+        with tempfile.TemporaryDirectory(dir=args.folder) as folder:
+            desk, _ = make(str(args.program.resolve()), size, folder)
+            checkpoint(Path(folder, "portal.db"))
+            for version in args.versions:
+                with tempfile.TemporaryDirectory(dir=args.folder) as copy:
+                    shutil.copy(Path(folder, "portal.db"), copy)
+                    measure(Desk(desk.program, copy), size, version)
 
 
 if __name__ == "__main__":

@@ -42,7 +42,7 @@ REDEMPTION = answer(1000, "POST", "/portal/redeem", guest(1), SOLD)
 NUMBERED = answer(1000, "POST", "/portal/redeem", guest(1), SOLD, number="a1")
 NOTHING = answer(2000, "GET", "/", DESK)[0], b"GET"
 STORES = {"new": [], "plans": [LOAD], "issued": [LOAD, ISSUE], "sold": [LOAD, ISSUE, SALE], "open": [LOAD, ISSUE, SALE, NUMBERED],
-          "version 1": [], "version 4": []}
+          "version 1": [], "version 4": [], "version 5": []}
 
 CALLS = [
     ("GET /captive", "open", answer(2000, "GET", "/captive", guest(1))),
@@ -56,6 +56,10 @@ CALLS = [
     ("POST /desk/refunds", "sold", answer(2000, "POST", "/desk/refunds", DESK, SOLD)),
     ("POST /desk/closes", "open", answer(2000, "POST", "/desk/closes", DESK, '{"session":1}')),
     ("GET /desk/vouchers/..", "open", answer(2000, "GET", f"/desk/vouchers/{CODE}", DESK)),
+    ("GET /desk/vouchers/../redemptions", "open", answer(2000, "GET", f"/desk/vouchers/{CODE}/redemptions", DESK)),
+    ("GET /desk/vouchers", "open", answer(2000, "GET", f"/desk/vouchers?prefix={CODE[:4]}", DESK)),
+    ("GET /desk/batches", "open", answer(2000, "GET", "/desk/batches", DESK)),
+    ("GET /desk/batches/b1", "open", answer(2000, "GET", "/desk/batches/b1", DESK)),
     ("GET /desk/takings", "sold", answer(2000, "GET", "/desk/takings?from=1970-01-01&to=1970-01-31", DESK)),
     ("POST /gateway/reports", "open", answer(2000, "POST", "/gateway/reports", GATEWAY, '{"session":1,"bytes":7}')),
     ("GET /gateway/sessions", "open", answer(2000, "GET", "/gateway/sessions", GATEWAY)),
@@ -71,16 +75,18 @@ CALLS = [
     ("check", "open", result("check")),
     ("check, migrating", "version 1", result("check")),
     ("check, migrating version 4", "version 4", result("check")),
+    ("check, migrating version 5", "version 5", result("check")),
 ]
 
 # The calls of which each request for memory is refused, or every so many of them; of the others those after the store is open.
-WHOLE = ("POST /desk/plans", "check", "check, migrating", "check, migrating version 4")
+WHOLE = ("POST /desk/plans", "check", "check, migrating", "check, migrating version 4", "check, migrating version 5")
 FEWER = 23
 
 # The calls that are refused memory a second time before they are made with memory. Their databases are of older schema versions.
-TWICE = ("check, migrating", "check, migrating version 4")
+TWICE = ("check, migrating", "check, migrating version 4", "check, migrating version 5")
 CASES = Path(__file__).resolve().parent.parent / "cases"
-OLD = {"version 1": "first_version_migrated.txt", "version 4": "fourth_version_migrated.txt"}
+OLD = {"version 1": "first_version_migrated.txt", "version 4": "fourth_version_migrated.txt",
+       "version 5": "fifth_version_migrated.txt"}
 
 
 def is_no_memory(said):

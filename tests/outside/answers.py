@@ -1,5 +1,5 @@
 """The largest answers about batches and vouchers, with ample memory: a batch of 500, a list of 20 of them and what comes
-after, and vouchers by the first characters of their codes.
+after, vouchers by the first characters of their codes, and a hundred redemptions of a voucher.
 
     answers.py PROGRAM
 """
@@ -8,7 +8,7 @@ import json
 import sys
 import tempfile
 
-from desk import DESK, PLANS, Desk, codes_of, voucher_of
+from desk import DESK, PLANS, Desk, codes_of, guest, voucher_of
 
 BATCHES, SIZE = 21, 500
 
@@ -57,6 +57,23 @@ def check_vouchers(desk, codes):
             assert found == {"more": False, "vouchers": [voucher_of(desk, other) for other in like]}, (start, found)
 
 
+def check_redemptions(desk):
+    """A voucher of a thousand uses, redeemed by 101 devices: the last 100 are listed."""
+    often = 'id = "often"\nprice = 300\nuses = 1000\nseconds = 3600\nbytes = 0\nshelf_days = 30\nextend = true\n'
+    desk.answer_to("POST", "/desk/plans", DESK, "[[plan]]\n" + often)
+    desk.answer_to("POST", "/desk/batches", DESK, json.dumps({"batch": "often", "plan": "often", "count": 1}))
+    code, = codes_of(desk, "often")
+    desk.answer_to("POST", "/desk/sales", DESK, json.dumps({"code": code}))
+    for number in range(101):
+        desk.answer_to("POST", "/portal/redeem", guest(number), json.dumps({"code": code}))
+    found = ask(desk, f"/desk/vouchers/{code}/redemptions")
+    sessions = [(row["session"], row["extended"], row["open"]) for row in found["redemptions"]]
+    assert (sessions, found["more"]) == ([(number, False, True) for number in range(101, 1, -1)], True), found
+    desk.answer_to("POST", "/portal/redeem", guest(100), json.dumps({"code": code}))
+    last, before = ask(desk, f"/desk/vouchers/{code}/redemptions")["redemptions"][:2]
+    assert (last["session"], last["extended"], before["session"], before["extended"]) == (101, True, 101, False), (last, before)
+
+
 def main(program):
     with tempfile.TemporaryDirectory() as folder:
         desk = Desk(program, folder)
@@ -65,6 +82,7 @@ def main(program):
             codes = fill(desk)
             check_batches(desk, codes)
             check_vouchers(desk, codes)
+            check_redemptions(desk)
         finally:
             desk.kill()
     print("outside: the largest answers about batches and vouchers are whole")

@@ -1,5 +1,5 @@
 """The examples of the documents: the first request of README.md, run as it is written, and the tables of docs/API.md: the
-nineteen endpoints, and the errors. The settings and the plans of the folder examples.
+twenty endpoints, and the errors. The settings and the plans of the folder examples.
 
     documents.py PROGRAM
 """
@@ -88,7 +88,7 @@ def examples(program: str) -> int:
 def endpoints(program: str, text: str) -> int:
     """Each row of the table, in its order, at one store; the voucher that is refunded is one of the program's own."""
     rows = re.findall(r"^\| (GET|POST) (\S+) \| (\w+) \| (\d+) \| (.*?) \| (.*) \|$", text, re.M)
-    expect("docs/API.md, rows of the table of endpoints", len(rows), 19)
+    expect("docs/API.md, rows of the table of endpoints", len(rows), 20)
     store = Store(program)
     for method, path, caller, now, asked, wanted in rows:
         quoted = re.findall(r"`([^`]*)`", asked)

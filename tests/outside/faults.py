@@ -87,7 +87,7 @@ def make_files(program: str, folder: str) -> None:
     assert run(program, folder, *answer, "1000", data=request("POST", "/desk/batches", DESK, order))[0] == 0
     with sqlite3.connect(os.path.join(folder, "portal.db")) as source, sqlite3.connect(os.path.join(folder, "off.db")) as copy:
         source.backup(copy)
-        copy.execute("UPDATE portal_counts SET redeemed = 1")
+        copy.execute("UPDATE portal_vouchers SET redeemed = 1")
     source.close()
     copy.close()
 

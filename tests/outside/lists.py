@@ -24,8 +24,13 @@ MANY = PLANS.replace('"hour"', '"many"').replace("uses = 3", "uses = 100000").re
 
 
 def code(draw):
-    """A code of 16 signs: the weighted sum with the check character is divisible by 31."""
-    values = [draw.randrange(31) for _ in range(15)]
+    """A code of 16 signs."""
+    return code_of([draw.randrange(31) for _ in range(15)])
+
+
+def code_of(values):
+    """The code that begins with these 15 signs: the weighted sum with the check character is divisible by 31."""
+    values = list(values)
     values.append(-sum(value * weight for weight, value in enumerate(values, 2)) % 31)
     signs = "".join(SIGNS[value] for value in values)
     return "-".join(signs[i:i + 4] for i in range(0, 16, 4))
@@ -66,14 +71,12 @@ def sell(file, count, now):
         name, issued = f"b{first}", now - (DAYS - 1) * DAY + first * (DAYS - 2) * DAY // count
         size = min(BATCH, count - first)
         put(file, "portal_batches", [(name, "hour", issued, issued + 30 * DAY, size)])
-        vouchers, counts = [], []
+        vouchers = []
         for place in range(size):
             text, sold = code(draw), issued + place
             refund = (sold + 60, price) if place % 20 == 0 else (None, None)
-            vouchers.append((text, name, place + base, sold, *refund))
-            counts.append((text, 0))
+            vouchers.append((text, name, place + base, sold, *refund, 0))
         put(file, "portal_vouchers", vouchers)
-        put(file, "portal_counts", counts)
 
 
 def redeem(file, text, count, now):
@@ -81,10 +84,9 @@ def redeem(file, text, count, now):
     first = file.execute("SELECT max(number) FROM portal_sessions").fetchone()[0] + 1
     grant = file.execute("SELECT max(number) FROM portal_grants").fetchone()[0] + 1
     numbers = range(count - 1)
-    put(file, "portal_sessions", [(first + i, device(i), "many", now, 0, None) for i in numbers])
+    put(file, "portal_sessions", [(first + i, device(i), "many", now, 0, None, now + DAY, None) for i in numbers])
     put(file, "portal_grants", [(grant + i, text, first + i, now, DAY, 0) for i in numbers])
-    put(file, "portal_totals", [(first + i, now + DAY, None) for i in numbers])
-    file.execute("UPDATE portal_counts SET redeemed = ? WHERE code = ?", (count, text))
+    file.execute("UPDATE portal_vouchers SET redeemed = ? WHERE code = ?", (count, text))
     more = count - 1
     head = "UPDATE portal_head SET last_moment = ?, grants = grants + ?, sessions = sessions + ?"
     file.execute(head, (now, more, more))

@@ -21,16 +21,14 @@ OTHER = "2222-2222-2222"        # a code that was never issued
 FAULTS = {
     "two plans of one id": "INSERT INTO portal_plans SELECT * FROM portal_plans",
     "two batches of one id": "INSERT INTO portal_batches SELECT * FROM portal_batches",
-    "two vouchers of one code": "INSERT INTO portal_vouchers (code, batch_id, place) SELECT code, batch_id, 7 FROM portal_vouchers LIMIT 1",
+    "two vouchers of one code": "INSERT INTO portal_vouchers (code, batch_id, place, redeemed) SELECT code, batch_id, 7, redeemed FROM portal_vouchers LIMIT 1",
     "two vouchers at one place": "UPDATE portal_vouchers SET place = 0",
-    "two counts of one code": "INSERT INTO portal_counts SELECT * FROM portal_counts",
     "two requests of one key": "INSERT INTO portal_requests SELECT * FROM portal_requests",
     "a batch of no plan": "UPDATE portal_batches SET plan_id = 'none'",
     "a voucher of no batch": "UPDATE portal_vouchers SET batch_id = 'none'",
-    "a session of no plan": "UPDATE portal_sessions SET plan_id = 'none'; UPDATE portal_totals SET ends = NULL, remaining = NULL",
-    "a redemption of no voucher": f"UPDATE portal_grants SET code = '{OTHER}'; UPDATE portal_counts SET redeemed = 0",
-    "a redemption in no session": "UPDATE portal_grants SET session = 9; UPDATE portal_totals SET ends = 1000",
-    "a count of no voucher": f"INSERT INTO portal_counts VALUES ('{OTHER}', 0)",
+    "a session of no plan": "UPDATE portal_sessions SET plan_id = 'none', ends = NULL, remaining = NULL",
+    "a redemption of no voucher": f"UPDATE portal_grants SET code = '{OTHER}'; UPDATE portal_vouchers SET redeemed = 0",
+    "a redemption in no session": "UPDATE portal_grants SET session = 9; UPDATE portal_sessions SET ends = 1000",
 }
 
 

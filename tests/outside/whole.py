@@ -286,11 +286,12 @@ def issue(desk: Desk, batch: str, count: int, length: int = resource.RLIM_INFINI
 
 
 def failed_close_keeps_the_files(program: str) -> None:
-    """A batch is answered, and then the close fails, as the database file may not grow: all batches are there at the next opening."""
+    """A batch is answered, and then the close fails, as the database file may not grow: all batches are there at the next opening. So many
+    batches are there before that a log, which grows by 128 KiB, has room within the length of the file."""
     with tempfile.TemporaryDirectory() as folder:
         desk = Desk(program, folder)
         answer(desk, 0, request("POST", "/desk/plans", DESK, PLANS))
-        issued = {f"a{number}": 500 for number in range(4)}
+        issued = {f"a{number}": 500 for number in range(8)}
         for name, count in issued.items():
             expect("a batch, with files of any length", issue(desk, name, count), (0, ""))
         length = len(content(desk, "portal.db"))

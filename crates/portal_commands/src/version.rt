@@ -7,5 +7,5 @@ ghost use Rattle.portal_commands.specs.Version.{version_line};
 pub fn version_line() -> &'static str
     ensures { result.now ≡ version_line }
 {
-    "portal 1.0.0 (database schema version 5)\n"
+    "portal 1.0.0 (database schema version 6)\n"
 }

@@ -11,8 +11,9 @@ ghost use Rattle.portal_model.specs.Batches.{
 };
 ghost use Rattle.portal_model.specs.Verdict.{IsWellFormed};
 ghost use Rattle.portal_model.specs.Captive.{captive_of, open_sessions_of};
-ghost use Rattle.portal_model.specs.Details.{session_details_of, last_details_of, open_details_of};
+ghost use Rattle.portal_model.specs.Details.{details_of, open_details_of};
 ghost use Rattle.portal_model.specs.History.{voucher_of};
+ghost use Rattle.portal_model.specs.Redemptions.{last_redemptions_of};
 ghost use Rattle.portal_model.specs.Takings.{TotalsFit};
 ghost use Rattle.portal_files.specs.SettingsFile.{SettingsValue};
 ghost use Rattle.portal_ledger.specs.Ledger.{Accepted, Ledger, IsSound};
@@ -42,10 +43,11 @@ use portal_model::calendar::DayRange;
 use portal_model::captive::{Captive, OpenSession};
 use portal_model::code_start::CodeStart;
 use portal_model::command::Command;
-use portal_model::details::SessionDetails;
+use portal_model::details::{SessionDetails, SessionKey};
 use portal_model::moment::Moment;
 use portal_model::name::{Device, Id};
 use portal_model::record::{Batch, Voucher};
+use portal_model::redemptions::Redemption;
 use portal_model::refusal::Refusal;
 use portal_model::takings::DayTakings;
 pub use prepared::{Marked, Prepared};
@@ -168,19 +170,27 @@ pub trait Desk {
         ensures { Moves settings is_fault_free has_stopped represents self.old self.new result
             (Returns result (λ sessions H. sessions.items ≡ open_details_of H moment)) };
 
-    /// Returns the details of the session of a number at a time, be it open or ended.
+    /// Returns the details of a session at a time, be it open or ended: of the one with a number, or of the
+    /// last one of a device.
     ///
     /// Errors: `NoMemory`, `Stopped`; `UnknownSession` if there never was one.
-    fn session(&mut self, moment: Moment, number: u64) -> Result<SessionDetails, Refusal>
+    fn session(&mut self, moment: Moment, key: SessionKey) -> Result<SessionDetails, Refusal>
         ensures { Moves settings is_fault_free has_stopped represents self.old self.new result
-            (Finds Refusal.UnknownSession (λ H. session_details_of H number moment) result) };
+            (Finds Refusal.UnknownSession (λ H. details_of H key moment) result) };
 
-    /// Returns the details of the last session of a device at a time, be it open or ended.
+    /// Lists the last 100 redemptions of the voucher of a code, the newest first, as they are at a time, and
+    /// returns whether there are more.
     ///
-    /// Errors: `NoMemory`, `Stopped`; `UnknownSession` if the device never had one.
-    fn last_session(&mut self, moment: Moment, device: Device) -> Result<SessionDetails, Refusal>
+    /// Errors: `NoMemory`, `Stopped`; `UnknownCode` if the code was never issued.
+    fn redemptions(
+        &mut self,
+        alloc: Global,
+        moment: Moment,
+        code: &Code,
+    ) -> Result<(Vec<Redemption>, bool), Refusal>
         ensures { Moves settings is_fault_free has_stopped represents self.old self.new result
-            (Finds Refusal.UnknownSession (λ H. last_details_of H device moment) result) };
+            (FindsThat Refusal.UnknownCode (λ H. last_redemptions_of H code.now moment)
+            (λ found listed _. (found.0.items, found.1) ≡ listed) result) };
 
     /// Computes the takings of each day of a range, in order, by the civil days of the settings' time zone.
     /// The totals over the days fit the types of the fields.

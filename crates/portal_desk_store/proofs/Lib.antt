@@ -6,6 +6,7 @@ pub mod ActLemmas
 pub mod AttachLemmas
 pub mod JudgeLemmas
 pub mod ReadLemmas
+pub mod RedemptionLemmas
 pub mod StepLemmas
 pub mod StopLemmas
 pub mod TakingLemmas

@@ -16,7 +16,6 @@ use crate::heads::update_head;
 use crate::keeping::update_open_sessions;
 use crate::open_sessions::OpenSessions;
 use portal_codes::Code;
-use portal_core::{effective, session_details};
 use portal_desk::Desk;
 use portal_desk::prepared::{Marked, Prepared};
 use portal_files::{BatchSheet, Settings};
@@ -27,17 +26,16 @@ use portal_model::calendar::DayRange;
 use portal_model::captive::{Captive, OpenSession};
 use portal_model::code_start::CodeStart;
 use portal_model::command::Command;
-use portal_model::details::SessionDetails;
+use portal_model::details::{SessionDetails, SessionKey};
 use portal_model::lists::Codes;
 use portal_model::moment::Moment;
 use portal_model::name::{Device, Id};
 use portal_model::proof::witness;
 use portal_model::record::{Batch, Head, Voucher};
+use portal_model::redemptions::Redemption;
 use portal_model::refusal::Refusal;
 use portal_model::takings::DayTakings;
-use portal_tables::questions::{
-    BatchOf, CodesOf, LastSessionOf, PlanOf, SessionOf, VoucherOf, VouchersLike,
-};
+use portal_tables::questions::{BatchOf, CodesOf, PlanOf, VoucherOf, VouchersLike};
 use portal_tables::tables::Tables;
 use sqlite::Alter;
 use std::alloc::Global;
@@ -152,22 +150,20 @@ impl<S: Alter> Desk for StoreDesk<S> {
         Ok(listing?)
     }
 
-    fn session(&mut self, moment: Moment, number: u64) -> Result<SessionDetails, Refusal> {
-        let head = self.head()?;
-        let session = self
-            .tables
-            .read(SessionOf { number })?
-            .ok_or(Refusal::UnknownSession)?;
-        Ok(session_details(&session, effective(moment, head.last)))
+    fn session(&mut self, moment: Moment, key: SessionKey) -> Result<SessionDetails, Refusal> {
+        match key {
+            SessionKey::Number(number) => self.read_details(moment, number),
+            SessionKey::Last(device) => self.read_last_details(moment, &device),
+        }
     }
 
-    fn last_session(&mut self, moment: Moment, device: Device) -> Result<SessionDetails, Refusal> {
-        let head = self.head()?;
-        let last = self
-            .tables
-            .read(LastSessionOf { device: &device })?
-            .ok_or(Refusal::UnknownSession)?;
-        Ok(session_details(&last, effective(moment, head.last)))
+    fn redemptions(
+        &mut self,
+        alloc: Global,
+        moment: Moment,
+        code: &Code,
+    ) -> Result<(Vec<Redemption>, bool), Refusal> {
+        self.read_redemptions(alloc, moment, code)
     }
 
     fn takings(&mut self, alloc: Global, range: DayRange) -> Result<Vec<DayTakings>, Refusal> {

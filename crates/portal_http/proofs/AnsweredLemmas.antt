@@ -22,6 +22,7 @@ use Rattle.portal_http_request.specs.declared.operation.Operation.TheVariants.{T
 use Rattle.portal_http_request.specs.declared.operation.Operation.TheVariants.{OpenDetails, Session}
 use Rattle.portal_http_request.specs.declared.operation.Operation.TheVariants.{LastSession, OwnSession}
 use Rattle.portal_http_request.specs.declared.operation.Operation.TheVariants.{Batches, Batch, Vouchers}
+use Rattle.portal_http_request.specs.declared.operation.Operation.TheVariants.{Redemptions}
 use Rattle.portal_http_request.specs.declared.rejection.Rejection.{Rejection}
 use Rattle.portal_http_request.specs.Checks.{IsChecked}
 use Rattle.portal_http_request.proofs.CheckedOnce.{checked_once}
@@ -61,6 +62,7 @@ command_stays L (Ok (OwnSession device)) moment = λ mark k held. held
 command_stays L (Ok (Batches before limit)) moment = λ mark k held. held
 command_stays L (Ok (Batch id)) moment = λ mark k held. held
 command_stays L (Ok (Vouchers start)) moment = λ mark k held. held
+command_stays L (Ok (Redemptions code)) moment = λ mark k held. held
 command_stays L (Err denied) moment = λ mark k held. held
 
 -- nothing is held if nothing is answered

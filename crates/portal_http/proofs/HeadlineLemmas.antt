@@ -19,15 +19,17 @@ use Rattle.portal_http_request.specs.declared.operation.Operation.TheVariants.{S
 use Rattle.portal_http_request.specs.declared.operation.Operation.TheVariants.{OpenDetails, Session}
 use Rattle.portal_http_request.specs.declared.operation.Operation.TheVariants.{LastSession, OwnSession}
 use Rattle.portal_http_request.specs.declared.operation.Operation.TheVariants.{Batches, Batch, Vouchers}
+use Rattle.portal_http_request.specs.declared.operation.Operation.TheVariants.{Redemptions}
 use Rattle.portal_http_request.specs.Rejection.{error_of, allow_of}
 use Rattle.portal_http.specs.Replies.{IsSheet, IsVoucher, IsAnswer, IsDetails, IsOwnDetails}
 use Rattle.portal_desk.proofs.Verdicts.{verdict_is_no_stop, repeat_is_no_stop}
 use Rattle.portal_http.proofs.Lines.{state_ok, sheet_ok, voucher_ok, takings_ok, sessions_ok, answer_ok}
 use Rattle.portal_http.proofs.Lines.{details_ok, own_details_ok, open_details_ok, refused_off, other_apart}
-use Rattle.portal_http.proofs.Lines.{ok_apart, batches_ok, batch_ok, vouchers_ok}
+use Rattle.portal_http.proofs.Lines.{ok_apart, batches_ok, batch_ok, vouchers_ok, redemptions_ok}
 use Rattle.portal_model.specs.Batches.{before_of, batch_with_vouchers, AreStatesAfter}
+use Rattle.portal_model.specs.Redemptions.{last_redemptions_of}
 use Rattle.portal_model.specs.declared.batches.BatchState.{BatchState}
-use Rattle.portal_http.specs.Replies.{AreBatches, IsBatch}
+use Rattle.portal_http.specs.Replies.{AreBatches, IsBatch, AreRedemptions}
 use Rattle.std.specs.Prelude.{Bool}
 
 memory_is_no_stop : NoMemory ≢ Stopped
@@ -153,6 +155,10 @@ module _ (settings : SettingsValue) where
   replied L a r (Ok (Vouchers start)) after checked other reply =
       by_told L a r after (Vouchers start) (vouchers_ok reply.0.0 reply.0.1 a.moment r reply.0.3) checked refl
       reply.1
+  replied L a r (Ok (Redemptions code)) after checked other reply =
+      by_found L a r after (Redemptions code) UnknownCode code_is_no_stop
+      (λ listed. AreRedemptions listed a.moment r) (λ listed is. redemptions_ok listed a.moment r is)
+      checked refl (last_redemptions_of (history_of L) code a.moment) reply.0 reply.1
   replied L a r (Ok (Act command mark)) after checked other reply = go (repeat_in L mark) refl reply
     where
       own : Accepted
@@ -254,6 +260,7 @@ module _ (settings : SettingsValue) where
       go (Ok (Batches before limit)) checked stops = let it = lead None stops in halts L it.1 it.0
       go (Ok (Batch id)) checked stops = let it = lead None stops in halts L it.1 it.0
       go (Ok (Vouchers start)) checked stops = let it = lead None stops in halts L it.1 it.0
+      go (Ok (Redemptions code)) checked stops = let it = lead None stops in halts L it.1 it.0
       go (Ok (Act command mark)) checked (inl is) = let it = lead None is in halts L it.1 it.0
       go (Ok (Act command mark)) checked (inr it) =
           let own = accepted_at L a.moment command mark in

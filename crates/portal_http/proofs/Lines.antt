@@ -18,11 +18,13 @@ use Rattle.portal_model.specs.declared.details.SessionDetails.{SessionDetails}
 use Rattle.portal_model.specs.declared.batches.BatchState.{BatchState}
 use Rattle.portal_model.specs.declared.record.Batch.{Batch}
 use Rattle.portal_model.specs.declared.record.Voucher.{Voucher}
+use Rattle.portal_model.specs.declared.redemptions.Redemption.{Redemption}
 use Rattle.portal_files.specs.declared.sheet.BatchSheet.{BatchSheet}
 use Rattle.portal_json.specs.Bodies.{error_body}
 use Rattle.portal_http_message.specs.Bytes.{head_bytes}
 use Rattle.portal_http.specs.Replies.{IsError, IsState, IsSheet, IsVoucher, IsTakings, AreSessions, IsAnswer}
 use Rattle.portal_http.specs.Replies.{IsDetails, IsOwnDetails, AreDetails, AreBatches, IsBatch, AreVouchers}
+use Rattle.portal_http.specs.Replies.{AreRedemptions}
 
 -- the body of the refusal of a desk that stopped
 abbrev stopped_body : List ℕ
@@ -93,6 +95,11 @@ pub vouchers_ok : (vouchers : List Voucher) (more : Bool) (moment : ℕ) (respon
     → AreVouchers vouchers more moment response → is_ok response ≡ true
 unfolding AreVouchers
 vouchers_ok vouchers more moment response (date, dated, same) = ap is_ok same ∙ ok_line _ _ _ _ _ _
+
+pub redemptions_ok : (listed : List Redemption × Bool) (moment : ℕ) (response : List ℕ)
+    → AreRedemptions listed moment response → is_ok response ≡ true
+unfolding AreRedemptions
+redemptions_ok (redemptions, more) moment response (date, dated, same) = ap is_ok same ∙ ok_line _ _ _ _ _ _
 
 pub answer_ok : (answer : Answer) (moment : ℕ) (response : List ℕ)
     → IsAnswer answer moment response → is_ok response ≡ true

@@ -12,8 +12,9 @@ use crate::arrivals::Arrival;
 use crate::reply::Response;
 use crate::responses::{
     answer_response, batch_response, batches_response, captive_response, details_response,
-    open_details_response, own_details_response, refusal_response, rejection_response,
-    sessions_response, sheet_response, takings_response, voucher_response, vouchers_response,
+    open_details_response, own_details_response, redemptions_response, refusal_response,
+    rejection_response, sessions_response, sheet_response, takings_response, voucher_response,
+    vouchers_response,
 };
 use crate::spares::Spare;
 use portal_codes::Code;
@@ -25,6 +26,7 @@ use portal_ledger::request::RequestMark;
 use portal_model::calendar::DayRange;
 use portal_model::code_start::CodeStart;
 use portal_model::command::Command;
+use portal_model::details::SessionKey;
 use portal_model::moment::Moment;
 use portal_model::name::{Device, Id};
 use portal_model::refusal::Refusal;
@@ -115,7 +117,7 @@ fn answer_session<D: Desk>(
 ) -> Result<Response, Refusal>
     ensures { ServesAt D.Desk (operation.Session number) moment result desk.old desk.new }
 {
-    let details = desk.session(moment, number)?;
+    let details = desk.session(moment, SessionKey::Number(number))?;
     details_response(alloc, moment, &details)
 }
 
@@ -128,7 +130,7 @@ fn answer_last_session<D: Desk>(
 ) -> Result<Response, Refusal>
     ensures { ServesAt D.Desk (operation.LastSession device) moment result desk.old desk.new }
 {
-    let details = desk.last_session(moment, device)?;
+    let details = desk.session(moment, SessionKey::Last(device))?;
     details_response(alloc, moment, &details)
 }
 
@@ -141,7 +143,7 @@ fn answer_own_session<D: Desk>(
 ) -> Result<Response, Refusal>
     ensures { ServesAt D.Desk (operation.OwnSession device) moment result desk.old desk.new }
 {
-    let details = desk.last_session(moment, device)?;
+    let details = desk.session(moment, SessionKey::Last(device))?;
     own_details_response(alloc, moment, &details)
 }
 
@@ -184,6 +186,19 @@ fn answer_vouchers<D: Desk>(
 {
     let (vouchers, more) = desk.vouchers_like(alloc, start)?;
     vouchers_response(alloc, moment, vouchers.as_slice(), more)
+}
+
+/// Answers with the last redemptions of a voucher. Refusal: that of the desk, or `NoMemory`.
+fn answer_redemptions<D: Desk>(
+    alloc: Global,
+    desk: &mut D,
+    moment: Moment,
+    code: Code,
+) -> Result<Response, Refusal>
+    ensures { ServesAt D.Desk (operation.Redemptions code) moment result desk.old desk.new }
+{
+    let (redemptions, more) = desk.redemptions(alloc, moment, &code)?;
+    redemptions_response(alloc, moment, redemptions.as_slice(), more)
 }
 
 /// Commits a command that the desk has prepared. Its response of status 200 is made before.
@@ -260,6 +275,7 @@ fn serve_operation<D: Desk>(
         Operation::Batches(before, limit) => answer_batches(alloc, desk, moment, before, limit),
         Operation::Batch(id) => answer_batch(alloc, desk, moment, id),
         Operation::Vouchers(start) => answer_vouchers(alloc, desk, moment, &start),
+        Operation::Redemptions(code) => answer_redemptions(alloc, desk, moment, code),
         Operation::Act(command, mark) => match mark {
             None => serve_plain(alloc, desk, moment, command),
             Some(mark) => serve_idempotent(alloc, desk, moment, command, &mark),

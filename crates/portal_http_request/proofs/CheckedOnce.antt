@@ -11,6 +11,7 @@ use Rattle.portal_http_request.proofs.Common.{Message, message_in, Route, Captiv
 use Rattle.portal_http_request.proofs.Common.{Sales, Refunds, Closes, Voucher, Takings, Reports, Sessions}
 use Rattle.portal_http_request.proofs.Common.{Session, LastSession, OwnSession, SessionDetails, BatchList}
 use Rattle.portal_http_request.proofs.Common.{Batch, Vouchers, AsksForBatches, AsksForVouchers, BeforeAmong}
+use Rattle.portal_http_request.proofs.Common.{Redemptions}
 use Rattle.portal_http_request.proofs.Common.{LimitAmong, values_at, option_and_then}
 use Rattle.portal_http_routes.specs.Queries.{only_of}
 use Rattle.portal_model.specs.CodeStart.{start_in}
@@ -328,6 +329,9 @@ route_once settings seed m Batch =
     wanted.Batch (Refused UnknownBatch) (batch_once (parameter_of (path_of m.target))))
 route_once settings seed m Vouchers =
     at_token_once settings.desk_token m _ (vouchers_once (query_of m.target))
+route_once settings seed m Redemptions =
+    at_token_once settings.desk_token m _ (gives_once (NamesCode (parameter_of (path_of m.target)))
+    wanted.Redemptions (Refused BadCode) (code_once (parameter_of (path_of m.target))))
 
 path_once : (settings : SettingsValue) (seed : List ℕ) (m : Message) (route : Option Route)
     → Once (AtPath settings seed m route)

@@ -42,6 +42,6 @@ pub use Rattle.portal_http_routes.specs.declared.Route.TheVariants.{Batches, Cap
 pub use Rattle.portal_http_routes.specs.declared.Route.TheVariants.{LastSession, OwnSession, Refunds, Reports}
 pub use Rattle.portal_http_routes.specs.declared.Route.TheVariants.{Sales, Session, SessionDetails, Sessions}
 pub use Rattle.portal_http_routes.specs.declared.Route.TheVariants.{Batch, BatchList, Takings, Voucher}
-pub use Rattle.portal_http_routes.specs.declared.Route.TheVariants.{Vouchers}
+pub use Rattle.portal_http_routes.specs.declared.Route.TheVariants.{Redemptions, Vouchers}
 pub use Rattle.rand_chacha.specs.ChaCha.{ChaCha, of_seed, word_at}
 pub use Rattle.serde_json.specs.Data.{Data}

@@ -10,7 +10,8 @@ use Rattle.portal_http_request.proofs.Common.{Exactly, IsCloseOrder, IsReportOrd
 use Rattle.portal_http_request.proofs.Common.{Message, Route, Captive, Plans, Batches, Print, Sales, Refunds}
 use Rattle.portal_http_request.proofs.Common.{Closes, Voucher, Takings, Reports, Sessions, Session}
 use Rattle.portal_http_request.proofs.Common.{LastSession, OwnSession, SessionDetails, BatchList, Batch}
-use Rattle.portal_http_request.proofs.Common.{Vouchers, with_method, path_of, [], ◌∷◌, option_and_then}
+use Rattle.portal_http_request.proofs.Common.{Redemptions, Vouchers, with_method, path_of, [], ◌∷◌}
+use Rattle.portal_http_request.proofs.Common.{option_and_then}
 use Rattle.portal_http_request.proofs.Common.{values_at}
 use Rattle.portal_http_request.proofs.Common.{AsksForBatches, AsksForVouchers, BeforeAmong}
 use Rattle.portal_http_routes.specs.Queries.{only_of}
@@ -230,6 +231,9 @@ route_no_stop settings seed m Batch =
     wanted.Batch UnknownBatch (other_than UnknownBatch refl))
 route_no_stop settings seed m Vouchers =
     token_no_stop settings.desk_token m _ (vouchers_no_stop (query_of m.target))
+route_no_stop settings seed m Redemptions =
+    token_no_stop settings.desk_token m _ (gives_wanted (NamesCode (parameter_of (path_of m.target)))
+    wanted.Redemptions BadCode (other_than BadCode refl))
 
 -- ---- the whole request
 

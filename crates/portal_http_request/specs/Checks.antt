@@ -29,6 +29,7 @@ use Rattle.portal_http_routes.specs.declared.Route.TheVariants.{Captive, Redeem,
 use Rattle.portal_http_routes.specs.declared.Route.TheVariants.{Refunds, Closes, Voucher, Takings, Reports}
 use Rattle.portal_http_routes.specs.declared.Route.TheVariants.{Sessions, Session, LastSession, OwnSession}
 use Rattle.portal_http_routes.specs.declared.Route.TheVariants.{SessionDetails, BatchList, Batch, Vouchers}
+use Rattle.portal_http_routes.specs.declared.Route.TheVariants.{Redemptions}
 use Rattle.portal_http_routes.specs.Queries.{only_of}
 use Rattle.portal_http_routes.specs.Route.{with_method}
 use Rattle.portal_model.specs.Batches.{most_batches}
@@ -102,7 +103,7 @@ AsksForVouchers query result =
     MatchOption (option_and_then start_in (only_of (values_at (codes "prefix") query)))
     (result ≡ Err (Refused BadCode)) (λ start. result ≡ Ok (operations.Vouchers start))
 
--- ---- the nineteen routes
+-- ---- the twenty routes
 
 -- what each route requires of a request, and the operation that it asks of the desk
 abbrev pub AtRoute : SettingsValue → List ℕ → Message → Route → Result Operation Rejection → Type 0
@@ -144,6 +145,8 @@ AtRoute settings seed m Batch = AtToken settings.desk_token m
     (Gives (NamesBatch (parameter_of (path_of m.target))) operations.Batch (Refused UnknownBatch))
 AtRoute settings seed m Vouchers =
     AtToken settings.desk_token m (AsksForVouchers (query_of m.target))
+AtRoute settings seed m Redemptions = AtToken settings.desk_token m
+    (Gives (NamesCode (parameter_of (path_of m.target))) operations.Redemptions (Refused BadCode))
 
 -- ---- the whole request
 

@@ -34,6 +34,8 @@ pub enum Operation {
     Batch(Id),
     /// Find the vouchers whose codes begin so.
     Vouchers(CodeStart),
+    /// List the last redemptions of the voucher of a code.
+    Redemptions(Code),
     /// Execute a command, idempotently if the request has a fingerprint.
     Act(Command, Option<RequestMark>),
 }

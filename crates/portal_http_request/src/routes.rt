@@ -208,6 +208,17 @@ fn check_voucher(settings: &Settings, asked: &RoutedRequest<'_>) -> Result<Opera
     Ok(Operation::Voucher(code))
 }
 
+/// Checks `GET /desk/vouchers/{code}/redemptions`. Rejections: `Forbidden`; `BadCode`.
+fn check_redemptions(settings: &Settings, asked: &RoutedRequest<'_>) -> Result<Operation, Rejection>
+    ensures checks { (seed : List ℕ) → AtRoute settings.now seed asked.now route.Redemptions result }
+    ensures in_order { IfOk result IsInOrder }
+{
+    require_token(settings.desk_token(), asked)?;
+    let text = path_parameter(asked.path().as_bytes());
+    let code = code_of_text(text).ok_or(Refusal::BadCode)?;
+    Ok(Operation::Redemptions(code))
+}
+
 /// Checks `GET /desk/takings`. Rejections: `Forbidden`; `BadRequest`.
 fn check_takings(settings: &Settings, asked: &RoutedRequest<'_>) -> Result<Operation, Rejection>
     ensures checks { (seed : List ℕ) → AtRoute settings.now seed asked.now route.Takings result }
@@ -394,5 +405,6 @@ pub fn check_route(
         Route::BatchList => check_batch_list(settings, asked),
         Route::Batch => check_batch(settings, asked),
         Route::Vouchers => check_vouchers(alloc, settings, asked),
+        Route::Redemptions => check_redemptions(settings, asked),
     }
 }

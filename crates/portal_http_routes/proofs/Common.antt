@@ -15,6 +15,6 @@ pub use Rattle.matchit.specs.Rows.{RowsOf}
 pub use Rattle.matchit.specs.Seek.{better, cuts, has_slash, longest_from, longest_suffix, or_else, own}
 pub use Rattle.matchit.specs.Seek.{same_text, segment, step, with_suffix}
 pub use Rattle.portal_http_routes.specs.Laws.{IsPathOf, IsPlain, IsSegment, batch_path, print_path}
-pub use Rattle.portal_http_routes.specs.Laws.{session_path, voucher_path}
+pub use Rattle.portal_http_routes.specs.Laws.{redemptions_path, session_path, voucher_path}
 pub use Rattle.portal_http_routes.specs.Queries.{ampersand, equals_sign, key_of, only_of, put_first, value_of}
 pub use Rattle.portal_http_routes.specs.declared.Route.{Route}

@@ -62,37 +62,59 @@ cut_word b rest =
     ap (λ (x : List ℕ). pointwise nat_eq (47 ∷ []) x) (last_slash (b ∷ rest)) in
     ap (λ (x : Bool). x && ends_with nat_eq (b ∷ rest ++ 47 ∷ []) (47 ∷ [])) long ∙ ends
 
--- the rows of a batch's print file and of the batch, behind the bytes that both begin with
-abbrev batch_rows : {K : Type 0} → K → K → RowsOf K
-batch_rows printed batch = (codes "/print", printed) ∷ ([], batch) ∷ []
+-- the rows of a path under a segment and of the segment itself, behind the bytes that both begin with
+abbrev under_rows : {K : Type 0} → List ℕ → K → K → RowsOf K
+under_rows tail under whole = (47 ∷ tail, under) ∷ ([], whole) ∷ []
 
-param_print : {K : Type 0} (printed batch : K) (b : ℕ) (rest : List ℕ) → IsPlain (b ∷ rest)
-    → param_step (batch_rows printed batch) (b ∷ rest ++ codes "/print") ≡ (
+param_under : {K : Type 0} (tail : List ℕ) (under whole : K) (b : ℕ) (rest : List ℕ) → IsPlain (b ∷ rest)
+    → param_step (under_rows tail under whole) (b ∷ rest ++ 47 ∷ tail) ≡ (
       length (b ∷ rest),
-      (codes "/print", printed) ∷ [],
+      (47 ∷ tail, under) ∷ [],
     )
 unfolding param_step
-param_print {K} printed batch b rest plain =
+param_under {K} tail under whole b rest plain =
     let shorter : length (b ∷ rest ++ 47 ∷ []) - 1 ≡ length (b ∷ rest) = omega (arith, length_push rest 47) in
-    rw (segment_word (b ∷ rest) (codes "print") plain, cut_word b rest, shorter)
+    rw (segment_word (b ∷ rest) tail plain, cut_word b rest, shorter)
+
+seek-under : {K : Type 0} (tail : List ℕ) (under whole : K) → seek 0 ((47 ∷ tail, under) ∷ []) (47 ∷ tail)
+    ≡ Some under → (b : ℕ) (rest : List ℕ) → IsPlain (b ∷ rest)
+    → seek 0 ((256 ∷ 47 ∷ tail, under) ∷ (256 ∷ [], whole) ∷ []) (b ∷ rest ++ 47 ∷ tail) ≡ Some under
+unfolding seek
+seek-under {K} tail under whole found b rest plain =
+    let other : eqb 256 b ≡ false = ne_eqb 256 b (λ e. omega (arith, plain.0)) in
+    let left : RowsOf K = (47 ∷ tail, under) ∷ [] in
+    let skipped : seek (length rest) left (rest ++ 47 ∷ tail) ≡ Some under =
+    seek-skip left rest (47 ∷ tail) ∙ found in
+    let pred : length (b ∷ rest) - 1 ≡ length rest = omega arith in
+    rw (
+      other,
+      seek-nil {K = K} 0 (rest ++ 47 ∷ tail),
+      param_under tail under whole b rest plain,
+      pred,
+      skipped,
+    )
+
+print_alone : {K : Type 0} (printed : K) → seek 0 ((codes "/print", printed) ∷ []) (codes "/print")
+    ≡ Some printed
+unfolding seek
+print_alone printed = refl
 
 pub seek-print : {K : Type 0} (printed batch : K) (b : ℕ) (rest : List ℕ) → IsPlain (b ∷ rest)
     → seek 0 ((256 ∷ codes "/print", printed) ∷ (256 ∷ [], batch) ∷ []) (b ∷ rest ++ codes "/print")
     ≡ Some printed
+seek-print printed batch b rest plain =
+    seek-under (codes "print") printed batch (print_alone printed) b rest plain
+
+redemptions_alone : {K : Type 0} (listed : K) → seek 0 ((codes "/redemptions", listed) ∷ [])
+    (codes "/redemptions") ≡ Some listed
 unfolding seek
-seek-print {K} printed batch b rest plain =
-    let other : eqb 256 b ≡ false = ne_eqb 256 b (λ e. omega (arith, plain.0)) in
-    let left : RowsOf K = (codes "/print", printed) ∷ [] in
-    let skipped : seek (length rest) left (rest ++ codes "/print") ≡ Some printed =
-    seek-skip left rest (codes "/print") in
-    let pred : length (b ∷ rest) - 1 ≡ length rest = omega arith in
-    rw (
-      other,
-      seek-nil {K = K} 0 (rest ++ codes "/print"),
-      param_print printed batch b rest plain,
-      pred,
-      skipped,
-    )
+redemptions_alone listed = refl
+
+pub seek-redemptions : {K : Type 0} (listed voucher : K) (b : ℕ) (rest : List ℕ) → IsPlain (b ∷ rest)
+    → seek 0 ((256 ∷ codes "/redemptions", listed) ∷ (256 ∷ [], voucher) ∷ [])
+    (b ∷ rest ++ codes "/redemptions") ≡ Some listed
+seek-redemptions listed voucher b rest plain =
+    seek-under (codes "redemptions") listed voucher (redemptions_alone listed) b rest plain
 
 no_slash : (word : List ℕ) → IsPlain word → has_slash word ≡ false
 no_slash [] plain = refl
@@ -120,22 +142,23 @@ no_cut b rest plain =
     never true = refl
     never false = refl
 
-param_batch : {K : Type 0} (printed batch : K) (b : ℕ) (rest : List ℕ) → IsPlain (b ∷ rest)
-    → param_step (batch_rows printed batch) (b ∷ rest) ≡ (length (b ∷ rest), batch_rows printed batch)
+param_whole : {K : Type 0} (tail : List ℕ) (under whole : K) (b : ℕ) (rest : List ℕ) → IsPlain (b ∷ rest)
+    → param_step (under_rows tail under whole) (b ∷ rest) ≡ (length (b ∷ rest), under_rows tail under whole)
 unfolding param_step
-param_batch printed batch b rest plain =
+param_whole tail under whole b rest plain =
     rw (segment_whole (b ∷ rest) plain, no_cut b rest plain, no_slash (b ∷ rest) plain)
 
-pub seek-batch : {K : Type 0} (printed batch : K) (b : ℕ) (rest : List ℕ) → IsPlain (b ∷ rest)
-    → seek 0 ((256 ∷ codes "/print", printed) ∷ (256 ∷ [], batch) ∷ []) (b ∷ rest) ≡ Some batch
+-- the segment itself
+pub seek-whole : {K : Type 0} (tail : List ℕ) (under whole : K) (b : ℕ) (rest : List ℕ) → IsPlain (b ∷ rest)
+    → seek 0 ((256 ∷ 47 ∷ tail, under) ∷ (256 ∷ [], whole) ∷ []) (b ∷ rest) ≡ Some whole
 unfolding seek
-seek-batch {K} printed batch b rest plain =
+seek-whole {K} tail under whole b rest plain =
     let other : eqb 256 b ≡ false = ne_eqb 256 b (λ e. omega (arith, plain.0)) in
-    let skipped : seek (length rest) (batch_rows printed batch) (rest ++ []) ≡ Some batch =
-    seek-skip (batch_rows printed batch) rest [] in
-    let whole : seek (length rest) (batch_rows printed batch) rest ≡ Some batch = rw append-nil at skipped in
+    let skipped : seek (length rest) (under_rows tail under whole) (rest ++ []) ≡ Some whole =
+    seek-skip (under_rows tail under whole) rest [] in
+    let all : seek (length rest) (under_rows tail under whole) rest ≡ Some whole = rw append-nil at skipped in
     let pred : length (b ∷ rest) - 1 ≡ length rest = omega arith in
-    rw (other, seek-nil {K = K} 0 rest, param_batch printed batch b rest plain, pred, whole)
+    rw (other, seek-nil {K = K} 0 rest, param_whole tail under whole b rest plain, pred, all)
 
 param_last : {K : Type 0} (r : K) (b : ℕ) (rest : List ℕ) → IsPlain (b ∷ rest)
     → param_step (([], r) ∷ []) (b ∷ rest) ≡ (length (b ∷ rest), ([], r) ∷ [])

@@ -5,6 +5,7 @@ use Rattle.portal_http_routes.specs.declared.Route.TheVariants.{Captive, Redeem,
 use Rattle.portal_http_routes.specs.declared.Route.TheVariants.{Refunds, Closes, Voucher, Takings, Reports}
 use Rattle.portal_http_routes.specs.declared.Route.TheVariants.{Sessions, Session, LastSession, OwnSession}
 use Rattle.portal_http_routes.specs.declared.Route.TheVariants.{SessionDetails, BatchList, Batch, Vouchers}
+use Rattle.portal_http_routes.specs.declared.Route.TheVariants.{Redemptions}
 use Rattle.portal_http_routes.specs.Targets.{slash, parameter_of}
 use Rattle.portal_http_routes.specs.Table.{route_in}
 
@@ -29,6 +30,10 @@ print_path id = codes "/desk/batches/" ++ (id ++ codes "/print")
 -- the path of a voucher
 abbrev pub voucher_path : List ℕ → List ℕ
 voucher_path code = codes "/desk/vouchers/" ++ code
+
+-- the path of a voucher's redemptions
+abbrev pub redemptions_path : List ℕ → List ℕ
+redemptions_path code = codes "/desk/vouchers/" ++ (code ++ codes "/redemptions")
 
 -- the path of a session
 abbrev pub session_path : List ℕ → List ℕ
@@ -56,6 +61,7 @@ IsPathOf SessionDetails path = path ≡ codes "/gateway/sessions/details"
 IsPathOf BatchList path = ⊥
 IsPathOf Batch path = (id : List ℕ) × IsSegment id × (path ≡ batch_path id)
 IsPathOf Vouchers path = path ≡ codes "/desk/vouchers"
+IsPathOf Redemptions path = (code : List ℕ) × IsSegment code × (path ≡ redemptions_path code)
 
 -- a path has a route exactly if it is one of the route's paths
 abbrev pub RoutesAreExact : Type 0
@@ -63,10 +69,11 @@ RoutesAreExact =
     (route : Route) (path : List ℕ) → All (λ b. b < 256) path
     → (route_in path ≡ Some route) ↔ IsPathOf route path
 
--- the parameter of a batch's path and of a print path is the batch, that of a voucher's path its code, and
--- that of a session's path its number
+-- the parameter of a batch's path and of a print path is the batch, that of a voucher's path and of the path
+-- of its redemptions its code, and that of a session's path its number
 abbrev pub ParametersAreExact : Type 0
 ParametersAreExact =
     (word : List ℕ) → IsSegment word
     → (parameter_of (print_path word) ≡ word) × (parameter_of (voucher_path word) ≡ word)
     × (parameter_of (session_path word) ≡ word) × (parameter_of (batch_path word) ≡ word)
+    × (parameter_of (redemptions_path word) ≡ word)

@@ -1,34 +1,49 @@
--- The method of each route, the routes that share a path, and the role of their callers.
+-- The table of the routes, and the routes that share a path.
 use Rattle.std.specs.Prelude.{ℕ, List, codes, Option, Some, None, cond, bytes_eq}
 use Rattle.portal_http_routes.specs.declared.Route.{Route}
 use Rattle.portal_http_routes.specs.declared.Route.TheVariants.{Captive, Redeem, Plans, Batches, Print, Sales}
 use Rattle.portal_http_routes.specs.declared.Route.TheVariants.{Refunds, Closes, Voucher, Takings, Reports}
 use Rattle.portal_http_routes.specs.declared.Route.TheVariants.{Sessions, Session, LastSession, OwnSession}
 use Rattle.portal_http_routes.specs.declared.Route.TheVariants.{SessionDetails, BatchList, Batch, Vouchers}
+use Rattle.portal_http_routes.specs.declared.Route.TheVariants.{Redemptions}
 use Rattle.portal_http_routes.specs.declared.Role.{Role}
 use Rattle.portal_http_routes.specs.declared.Role.TheVariants.{Guest, Desk, Gateway}
 
--- the method of a route: GET if the route only reads
+-- the table of the routes: of each the pattern of its paths, its method, which is GET if the route only
+-- reads, and the role of the callers that may use it
+abbrev pub row_of : Route → List ℕ × List ℕ × Role
+row_of Captive = (codes "/captive", codes "GET", Guest)
+row_of Redeem = (codes "/portal/redeem", codes "POST", Guest)
+row_of Plans = (codes "/desk/plans", codes "POST", Desk)
+row_of Batches = (codes "/desk/batches", codes "POST", Desk)
+row_of BatchList = (codes "/desk/batches", codes "GET", Desk)
+row_of Batch = (codes "/desk/batches/{id}", codes "GET", Desk)
+row_of Print = (codes "/desk/batches/{id}/print", codes "GET", Desk)
+row_of Sales = (codes "/desk/sales", codes "POST", Desk)
+row_of Refunds = (codes "/desk/refunds", codes "POST", Desk)
+row_of Closes = (codes "/desk/closes", codes "POST", Desk)
+row_of Voucher = (codes "/desk/vouchers/{code}", codes "GET", Desk)
+row_of Vouchers = (codes "/desk/vouchers", codes "GET", Desk)
+row_of Redemptions = (codes "/desk/vouchers/{code}/redemptions", codes "GET", Desk)
+row_of Takings = (codes "/desk/takings", codes "GET", Desk)
+row_of Session = (codes "/desk/sessions/{number}", codes "GET", Desk)
+row_of LastSession = (codes "/desk/sessions", codes "GET", Desk)
+row_of OwnSession = (codes "/portal/session", codes "GET", Guest)
+row_of Reports = (codes "/gateway/reports", codes "POST", Gateway)
+row_of Sessions = (codes "/gateway/sessions", codes "GET", Gateway)
+row_of SessionDetails = (codes "/gateway/sessions/details", codes "GET", Gateway)
+
+-- the pattern of the paths of a route
+abbrev pub pattern_of : Route → List ℕ
+pattern_of route = (row_of route).0
+
+-- the method of a route
 abbrev pub method_of : Route → List ℕ
-method_of Captive = codes "GET"
-method_of Redeem = codes "POST"
-method_of Plans = codes "POST"
-method_of Batches = codes "POST"
-method_of Print = codes "GET"
-method_of Sales = codes "POST"
-method_of Refunds = codes "POST"
-method_of Closes = codes "POST"
-method_of Voucher = codes "GET"
-method_of Takings = codes "GET"
-method_of Reports = codes "POST"
-method_of Sessions = codes "GET"
-method_of Session = codes "GET"
-method_of LastSession = codes "GET"
-method_of OwnSession = codes "GET"
-method_of SessionDetails = codes "GET"
-method_of BatchList = codes "GET"
-method_of Batch = codes "GET"
-method_of Vouchers = codes "GET"
+method_of route = (row_of route).1
+
+-- the role of the callers that may use a route
+abbrev pub role_of : Route → Role
+role_of route = (row_of route).2
 
 -- the other route at the path of that one, which only reads, if there is one
 abbrev pub reading_at : Route → Option Route
@@ -49,25 +64,3 @@ with_method route method =
 abbrev pub allowed_at : Route → List ℕ
 allowed_at Batches = codes "GET, POST"
 allowed_at route = method_of route
-
--- the role of the callers that may use the route
-abbrev pub role_of : Route → Role
-role_of Captive = Guest
-role_of Redeem = Guest
-role_of Plans = Desk
-role_of Batches = Desk
-role_of Print = Desk
-role_of Sales = Desk
-role_of Refunds = Desk
-role_of Closes = Desk
-role_of Voucher = Desk
-role_of Takings = Desk
-role_of Reports = Gateway
-role_of Sessions = Gateway
-role_of Session = Desk
-role_of LastSession = Desk
-role_of OwnSession = Guest
-role_of SessionDetails = Gateway
-role_of BatchList = Desk
-role_of Batch = Desk
-role_of Vouchers = Desk

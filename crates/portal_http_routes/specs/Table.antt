@@ -1,6 +1,6 @@
--- The table of routes, and the route of a path.
+-- The router's rows, and the route of a path.
 use Rattle.std.specs.Prelude.{◌≡◌, ℕ, List, [], ◌∷◌, ◌⊎◌, if◌then◌else◌, Option, None, option_map, Result, Ok}
-use Rattle.std.specs.Prelude.{Err, codes, IsUtf8}
+use Rattle.std.specs.Prelude.{Err, IsUtf8}
 use Rattle.matchit.specs.Rows.{RowsOf}
 use Rattle.matchit.specs.Router.{RouteOf, route_from}
 use Rattle.matchit.specs.Order.{placed}
@@ -12,6 +12,8 @@ use Rattle.portal_http_routes.specs.declared.Route.TheVariants.{Captive, Redeem,
 use Rattle.portal_http_routes.specs.declared.Route.TheVariants.{Refunds, Closes, Voucher, Takings, Reports}
 use Rattle.portal_http_routes.specs.declared.Route.TheVariants.{Sessions, Session, LastSession, OwnSession}
 use Rattle.portal_http_routes.specs.declared.Route.TheVariants.{SessionDetails, Batch, Vouchers}
+use Rattle.portal_http_routes.specs.declared.Route.TheVariants.{Redemptions}
+use Rattle.portal_http_routes.specs.Route.{pattern_of}
 use Rattle.portal_http_routes.specs.Targets.{is_path}
 
 -- a router's rows with one route added, by the result of parsing its pattern
@@ -24,22 +26,16 @@ unfoldable pub place_route : List ℕ → Route → RowsOf (RouteOf Route) → R
 place_route text route rows = place_read (parse_route text) route rows
 
 -- a router's rows with more routes added, one after another
-abbrev pub place_all : List (List ℕ × Route) → RowsOf (RouteOf Route) → RowsOf (RouteOf Route)
+abbrev pub place_all : List Route → RowsOf (RouteOf Route) → RowsOf (RouteOf Route)
 place_all [] rows = rows
-place_all ((text, route) ∷ rest) rows = place_all rest (place_route text route rows)
+place_all (route ∷ rest) rows = place_all rest (place_route (pattern_of route) route rows)
 
--- the eighteen routes that are found by their paths; `BatchList` is found by its method, at the path of
+-- the nineteen routes that are found by their paths; `BatchList` is found by its method, at the path of
 -- `Batches`
-abbrev pub all_routes : List (List ℕ × Route)
+abbrev pub all_routes : List Route
 all_routes =
-    (codes "/captive", Captive) ∷ (codes "/portal/redeem", Redeem) ∷ (codes "/desk/plans", Plans)
-    ∷ (codes "/desk/batches", Batches) ∷ (codes "/desk/batches/{id}/print", Print)
-    ∷ (codes "/desk/sales", Sales) ∷ (codes "/desk/refunds", Refunds) ∷ (codes "/desk/closes", Closes)
-    ∷ (codes "/desk/vouchers/{code}", Voucher) ∷ (codes "/desk/takings", Takings)
-    ∷ (codes "/gateway/reports", Reports) ∷ (codes "/gateway/sessions", Sessions)
-    ∷ (codes "/desk/sessions/{number}", Session) ∷ (codes "/desk/sessions", LastSession)
-    ∷ (codes "/portal/session", OwnSession) ∷ (codes "/gateway/sessions/details", SessionDetails)
-    ∷ (codes "/desk/batches/{id}", Batch) ∷ (codes "/desk/vouchers", Vouchers) ∷ []
+    Captive ∷ Redeem ∷ Plans ∷ Batches ∷ Print ∷ Sales ∷ Refunds ∷ Closes ∷ Voucher ∷ Takings ∷ Reports
+    ∷ Sessions ∷ Session ∷ LastSession ∷ OwnSession ∷ SessionDetails ∷ Batch ∷ Vouchers ∷ Redemptions ∷ []
 
 -- the router's rows
 abbrev pub table : RowsOf (RouteOf Route)

@@ -3,7 +3,7 @@
 #![tactic(auto)]
 
 ghost use Rattle.std.specs.Prelude.{◌≡◌};
-ghost use Rattle.portal_http_routes.specs.Route.{method_of, with_method, allowed_at, role_of};
+ghost use Rattle.portal_http_routes.specs.Route.{pattern_of, method_of, role_of, with_method, allowed_at};
 
 pub mod laws;
 mod queries;
@@ -55,6 +55,8 @@ pub enum Route {
     Batch,
     /// `/desk/vouchers`: gives the vouchers whose codes begin with some characters.
     Vouchers,
+    /// `/desk/vouchers/{code}/redemptions`: lists the last redemptions of a voucher.
+    Redemptions,
 }
 
 /// The role of a caller, which decides how the caller is identified.
@@ -68,32 +70,70 @@ pub enum Role {
     Gateway,
 }
 
+/// A row of the table of the routes.
+#[derive(Clone, Copy)]
+struct Row {
+    /// The pattern of the paths of a route: a segment in braces stands for any segment.
+    path: &'static str,
+    /// The method: `GET` if the route only reads, else `POST`.
+    method: &'static str,
+    /// The role of the callers that may use the route.
+    role: Role,
+}
+
+impl Row {
+    fn new(path: &'static str, method: &'static str, role: Role) -> Row
+        ensures path { result.path.now ≡ path.now }
+        ensures method { result.method.now ≡ method.now }
+        ensures role { result.role ≡ role }
+    {
+        Row { path, method, role }
+    }
+}
+
 impl Route {
+    /// Returns the row of the route in the table of the routes.
+    fn row(self) -> Row
+        ensures path { result.path.now ≡ pattern_of self }
+        ensures method { result.method.now ≡ method_of self }
+        ensures role { result.role ≡ role_of self }
+    {
+        match self {
+            Route::Captive => Row::new("/captive", "GET", Role::Guest),
+            Route::Redeem => Row::new("/portal/redeem", "POST", Role::Guest),
+            Route::Plans => Row::new("/desk/plans", "POST", Role::Desk),
+            Route::Batches => Row::new("/desk/batches", "POST", Role::Desk),
+            Route::BatchList => Row::new("/desk/batches", "GET", Role::Desk),
+            Route::Batch => Row::new("/desk/batches/{id}", "GET", Role::Desk),
+            Route::Print => Row::new("/desk/batches/{id}/print", "GET", Role::Desk),
+            Route::Sales => Row::new("/desk/sales", "POST", Role::Desk),
+            Route::Refunds => Row::new("/desk/refunds", "POST", Role::Desk),
+            Route::Closes => Row::new("/desk/closes", "POST", Role::Desk),
+            Route::Voucher => Row::new("/desk/vouchers/{code}", "GET", Role::Desk),
+            Route::Vouchers => Row::new("/desk/vouchers", "GET", Role::Desk),
+            Route::Redemptions => Row::new("/desk/vouchers/{code}/redemptions", "GET", Role::Desk),
+            Route::Takings => Row::new("/desk/takings", "GET", Role::Desk),
+            Route::Session => Row::new("/desk/sessions/{number}", "GET", Role::Desk),
+            Route::LastSession => Row::new("/desk/sessions", "GET", Role::Desk),
+            Route::OwnSession => Row::new("/portal/session", "GET", Role::Guest),
+            Route::Reports => Row::new("/gateway/reports", "POST", Role::Gateway),
+            Route::Sessions => Row::new("/gateway/sessions", "GET", Role::Gateway),
+            Route::SessionDetails => Row::new("/gateway/sessions/details", "GET", Role::Gateway),
+        }
+    }
+
+    /// Returns the pattern of the paths of the route: a segment in braces stands for any segment.
+    pub fn path_pattern(self) -> &'static str
+        ensures { result.now ≡ pattern_of self }
+    {
+        self.row().path
+    }
+
     /// Returns the method of the route as text: `GET` if the route only reads, else `POST`.
     pub fn method_text(self) -> &'static str
         ensures { result.now ≡ method_of self }
     {
-        match self {
-            Route::Captive
-            | Route::Print
-            | Route::Voucher
-            | Route::Takings
-            | Route::Sessions
-            | Route::Session
-            | Route::LastSession
-            | Route::OwnSession
-            | Route::SessionDetails
-            | Route::BatchList
-            | Route::Batch
-            | Route::Vouchers => "GET",
-            Route::Redeem
-            | Route::Plans
-            | Route::Batches
-            | Route::Sales
-            | Route::Refunds
-            | Route::Closes
-            | Route::Reports => "POST",
-        }
+        self.row().method
     }
 
     /// Returns the route that has this method, among those at the path of this route.
@@ -125,22 +165,6 @@ impl Route {
     pub fn role(self) -> Role
         ensures { result ≡ role_of self }
     {
-        match self {
-            Route::Captive | Route::Redeem | Route::OwnSession => Role::Guest,
-            Route::Plans
-            | Route::Batches
-            | Route::Print
-            | Route::Sales
-            | Route::Refunds
-            | Route::Closes
-            | Route::Voucher
-            | Route::Takings
-            | Route::Session
-            | Route::LastSession
-            | Route::BatchList
-            | Route::Batch
-            | Route::Vouchers => Role::Desk,
-            Route::Reports | Route::Sessions | Route::SessionDetails => Role::Gateway,
-        }
+        self.row().role
     }
 }

@@ -1,5 +1,6 @@
 //! The router: finds the route of a path.
 ghost use Rattle.std.specs.Prelude.{◌≡◌, IfOk, OnOk, option_map};
+ghost use Rattle.portal_http_routes.specs.Route.{pattern_of};
 ghost use Rattle.portal_http_routes.specs.Table.{place_route, table, route_of, FindsRoute};
 
 use crate::Route;
@@ -32,10 +33,10 @@ impl Model for Routes {
 /// Adds a route to the router, with the pattern of its paths.
 ///
 /// Error: that of the router. For the patterns of this crate it is out of memory.
-fn add_route(router: &mut Router<Route>, text: &str, route: Route) -> Result<(), InsertError>
-    ensures { OnOk result (router.new ≡ place_route text.now route router.old) }
+fn add_route(router: &mut Router<Route>, route: Route) -> Result<(), InsertError>
+    ensures { OnOk result (router.new ≡ place_route (pattern_of route) route router.old) }
 {
-    router.insert(text, route)
+    router.insert(route.path_pattern(), route)
 }
 
 /// Makes a router with a route for each path. Error: as for `add_route`.
@@ -43,28 +44,25 @@ fn whole_router(alloc: Global) -> Result<Router<Route>, InsertError>
     ensures { IfOk result (λ router. router ≡ table) }
 {
     let mut router = Router::new(alloc);
-    add_route(&mut router, "/captive", Route::Captive)?;
-    add_route(&mut router, "/portal/redeem", Route::Redeem)?;
-    add_route(&mut router, "/desk/plans", Route::Plans)?;
-    add_route(&mut router, "/desk/batches", Route::Batches)?;
-    add_route(&mut router, "/desk/batches/{id}/print", Route::Print)?;
-    add_route(&mut router, "/desk/sales", Route::Sales)?;
-    add_route(&mut router, "/desk/refunds", Route::Refunds)?;
-    add_route(&mut router, "/desk/closes", Route::Closes)?;
-    add_route(&mut router, "/desk/vouchers/{code}", Route::Voucher)?;
-    add_route(&mut router, "/desk/takings", Route::Takings)?;
-    add_route(&mut router, "/gateway/reports", Route::Reports)?;
-    add_route(&mut router, "/gateway/sessions", Route::Sessions)?;
-    add_route(&mut router, "/desk/sessions/{number}", Route::Session)?;
-    add_route(&mut router, "/desk/sessions", Route::LastSession)?;
-    add_route(&mut router, "/portal/session", Route::OwnSession)?;
-    add_route(
-        &mut router,
-        "/gateway/sessions/details",
-        Route::SessionDetails,
-    )?;
-    add_route(&mut router, "/desk/batches/{id}", Route::Batch)?;
-    add_route(&mut router, "/desk/vouchers", Route::Vouchers)?;
+    add_route(&mut router, Route::Captive)?;
+    add_route(&mut router, Route::Redeem)?;
+    add_route(&mut router, Route::Plans)?;
+    add_route(&mut router, Route::Batches)?;
+    add_route(&mut router, Route::Print)?;
+    add_route(&mut router, Route::Sales)?;
+    add_route(&mut router, Route::Refunds)?;
+    add_route(&mut router, Route::Closes)?;
+    add_route(&mut router, Route::Voucher)?;
+    add_route(&mut router, Route::Takings)?;
+    add_route(&mut router, Route::Reports)?;
+    add_route(&mut router, Route::Sessions)?;
+    add_route(&mut router, Route::Session)?;
+    add_route(&mut router, Route::LastSession)?;
+    add_route(&mut router, Route::OwnSession)?;
+    add_route(&mut router, Route::SessionDetails)?;
+    add_route(&mut router, Route::Batch)?;
+    add_route(&mut router, Route::Vouchers)?;
+    add_route(&mut router, Route::Redemptions)?;
     Ok(router)
 }
 

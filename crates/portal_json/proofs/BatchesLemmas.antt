@@ -123,7 +123,7 @@ pub batch_text_is : (s : BatchState) → batch_before (codes "}") s ≡ compact_
 unfolding escape_byte
 batch_text_is s = simp append_assoc refl
 
-flag_is : (flag : Bool) → word_of_flag flag ≡ compact_text (boolean flag)
+pub flag_is : (flag : Bool) → word_of_flag flag ≡ compact_text (boolean flag)
 flag_is false = refl
 flag_is true = refl
 

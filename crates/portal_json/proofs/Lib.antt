@@ -3,5 +3,6 @@ pub mod Common
 pub mod DetailsLemmas
 pub mod ListedLemmas
 pub mod ObjectLemmas
+pub mod RedemptionLemmas
 pub mod SessionLemmas
 pub mod TextLemmas

@@ -11,6 +11,7 @@ use Rattle.portal_model.specs.declared.details.End.{End}
 use Rattle.portal_model.specs.declared.details.End.TheVariants.{Closed, Time, Bytes}
 use Rattle.portal_model.specs.declared.details.SessionDetails.{SessionDetails}
 use Rattle.portal_model.specs.declared.record.Voucher.{Voucher}
+use Rattle.portal_model.specs.declared.redemptions.Redemption.{Redemption}
 use Rattle.portal_model.specs.declared.change.Answer.{Answer}
 use Rattle.portal_model.specs.declared.change.Answer.TheVariants.{LoadAnswer, IssueAnswer, SellAnswer}
 use Rattle.portal_model.specs.declared.change.Answer.TheVariants.{RedeemAnswer, ReportAnswer, RefundAnswer}
@@ -178,6 +179,19 @@ abbrev pub vouchers_data : List Voucher → Bool → Data
 vouchers_data vouchers more = object_of (
     (codes "more", Some (boolean more)) ∷ (codes "vouchers", Some (array_of voucher_data vouchers)) ∷ [])
 
+-- a redemption
+abbrev pub redemption_data : Redemption → Data
+redemption_data r = object_of (
+    (codes "at", Some (integer r.at)) ∷ (codes "device", Some (string (text_of_device r.device)))
+    ∷ (codes "extended", Some (boolean r.extended)) ∷ (codes "open", Some (boolean r.is_open))
+    ∷ (codes "session", Some (integer r.session)) ∷ [])
+
+-- redemptions, in the order listed, and whether there are more
+abbrev pub redemptions_data : List Redemption → Bool → Data
+redemptions_data redemptions more = object_of (
+    (codes "more", Some (boolean more))
+    ∷ (codes "redemptions", Some (array_of redemption_data redemptions)) ∷ [])
+
 -- the text of a captive state
 unfoldable pub captive_body : Captive → List ℕ → Option (List ℕ) → List ℕ
 captive_body state portal_url venue_url = compact_text (captive_data state portal_url venue_url)
@@ -221,3 +235,7 @@ batch_body s vouchers = compact_text (batch_data s vouchers)
 -- the text of vouchers, and of whether there are more
 unfoldable pub vouchers_body : List Voucher → Bool → List ℕ
 vouchers_body vouchers more = compact_text (vouchers_data vouchers more)
+
+-- the text of redemptions, and of whether there are more
+unfoldable pub redemptions_body : List Redemption → Bool → List ℕ
+redemptions_body redemptions more = compact_text (redemptions_data redemptions more)

@@ -8,6 +8,7 @@ mod details;
 mod listed;
 mod objects;
 mod orders;
+mod redemptions;
 mod sessions;
 mod vouchers;
 
@@ -19,5 +20,6 @@ pub use orders::{
     BatchOrder, ReportOrder, read_batch, read_close, read_redeem, read_refund, read_report,
     read_sale,
 };
+pub use redemptions::redemptions_text;
 pub use sessions::sessions_text;
 pub use vouchers::voucher_text;

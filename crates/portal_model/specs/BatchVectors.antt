@@ -1,13 +1,15 @@
--- Test vectors of what is told of batches.
+-- Test vectors of what is told of batches, and of redemptions.
 use Rattle.std.specs.Prelude.{◌≡◌, ℕ, Bool, true, false, List, [], ◌∷◌, Option, Some, None, option_map, codes}
 use Rattle.portal_model.specs.declared.batches.BatchState.{BatchState}
-use Rattle.portal_model.specs.declared.command.Command.TheVariants.{Issue, Sell, Refund}
+use Rattle.portal_model.specs.declared.command.Command.TheVariants.{Issue, Sell, Redeem, Refund, Close}
 use Rattle.portal_model.specs.declared.plan.Plan.{Plan}
+use Rattle.portal_model.specs.declared.redemptions.Redemption.{Redemption}
 use Rattle.portal_model.specs.Batches.{batch_state, batch_with_vouchers, begins_with, is_after, before_of}
 use Rattle.portal_model.specs.History.{History, entry, batch_row}
-use Rattle.portal_model.specs.TestVectors.{hour, gig, code1, code2, code3}
+use Rattle.portal_model.specs.Redemptions.{redemptions_of}
+use Rattle.portal_model.specs.TestVectors.{hour, gig, device1, code1, code2, code3}
 use Rattle.portal_model.specs.TestVectors.{history_with_plans, hour_sold, second_sold}
-use Rattle.portal_model.specs.TestVectors.{gig_redeemed}
+use Rattle.portal_model.specs.TestVectors.{gig_redeemed, peta_redeemed}
 
 -- the state of the batch of that id after a history
 abbrev pub state_in : History → List ℕ → Option BatchState
@@ -59,3 +61,21 @@ OrderOfBatches =
     × (is_after_b2 1000 (codes "b3") ≡ false) × (is_after_b2 1001 (codes "b1") ≡ false)
     × (before_of second_sold (Some (codes "b3")) ≡ None) × (before_of second_sold None ≡ Some None)
     × (before_of second_sold (Some (codes "b2")) ≡ Some (Some (batch_row 1000 (codes "b2") 1 hour)))
+
+-- a redemption by the first device in session 1
+abbrev pub in_first : ℕ → Bool → Bool → Redemption
+in_first at extended is_open =
+    record { at = at; device = device1; extended = extended; is_open = is_open; session = 1 }
+
+-- the redemption that opened a session did not extend it, and any later one in it did, also in the same
+-- second; the newest comes first; a voucher that is not redeemed has none, and an unknown one has no list
+abbrev pub RedemptionsOfCodes : Type 0
+RedemptionsOfCodes =
+    let H = entry 4599 (Redeem device1 code1) ∷ second_sold in
+    (redemptions_of H code3 4600 ≡ Some (in_first 1000 false true ∷ []))
+    × (redemptions_of H code1 4600 ≡ Some (in_first 4599 true true ∷ []))
+    × (redemptions_of H code1 8200 ≡ Some (in_first 4599 true false ∷ []))
+    × (redemptions_of (entry 4600 (Close 1) ∷ H) code1 4600 ≡ Some (in_first 4599 true false ∷ []))
+    × (redemptions_of (peta_redeemed 2) code1 900
+    ≡ Some (in_first 1000 true true ∷ in_first 1000 false true ∷ []))
+    × (redemptions_of two_issued code3 2000 ≡ Some []) × (redemptions_of two_issued code2 2000 ≡ None)

@@ -5,6 +5,8 @@ use Rattle.portal_model.specs.declared.record.Session.{Session}
 use Rattle.portal_model.specs.declared.details.End.{End}
 use Rattle.portal_model.specs.declared.details.End.TheVariants.{Closed, Time, Bytes}
 use Rattle.portal_model.specs.declared.details.SessionDetails.{SessionDetails}
+use Rattle.portal_model.specs.declared.details.SessionKey.{SessionKey}
+use Rattle.portal_model.specs.declared.details.SessionKey.TheVariants.{Last, Number}
 use Rattle.portal_model.specs.History.{History, effective_moment, is_below, is_open_at, session_of}
 use Rattle.portal_model.specs.History.{last_session_of}
 use Rattle.portal_model.specs.Captive.{all_sessions, left_below}
@@ -42,6 +44,11 @@ session_details_of H number t = option_map (details_at (effective_moment H t)) (
 -- the details of the last session of the device after a history, for a request at t
 abbrev pub last_details_of : History → List ℕ → ℕ → Option SessionDetails
 last_details_of H device t = option_map (details_at (effective_moment H t)) (last_session_of H device)
+
+-- the details of the session of that number, or of the last one of that device
+abbrev pub details_of : History → SessionKey → ℕ → Option SessionDetails
+details_of H (Number number) t = session_details_of H number t
+details_of H (Last device) t = last_details_of H device t
 
 -- the details of the sessions that are open after a history, for a request at t
 abbrev pub open_details_of : History → ℕ → List SessionDetails

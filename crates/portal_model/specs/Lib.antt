@@ -11,6 +11,7 @@ pub mod Captive
 pub mod Details
 pub mod Batches
 pub mod CodeStart
+pub mod Redemptions
 pub mod Payments
 pub mod Private
 pub mod Span

@@ -38,6 +38,15 @@ pub struct SessionDetails {
     pub used: u64,
 }
 
+/// What a session is found by.
+#[derive(Clone, Copy, Debug, PartialEq, Eq)]
+pub enum SessionKey {
+    /// Its number.
+    Number(u64),
+    /// Its device, whose last session it is.
+    Last(Device),
+}
+
 /// Law: a session is open exactly if there is no reason for which it has ended.
 pub fn open_until_end()
     ensures { OpenUntilEnd }

@@ -15,6 +15,7 @@ pub mod name;
 pub mod plan;
 pub mod proof;
 pub mod record;
+pub mod redemptions;
 pub mod refusal;
 pub mod takings;
 pub mod test_vectors;

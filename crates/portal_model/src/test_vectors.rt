@@ -1,6 +1,6 @@
 //! Test vectors of the model: histories with the answers to commands, the captive state of devices, the
-//! details of sessions, and what is told of batches. The functions do nothing; their contracts state the
-//! vectors.
+//! details of sessions, the states of batches, and redemptions. The functions do nothing; their contracts
+//! state the vectors.
 ghost use Rattle.portal_model.specs.TestVectors.{
   IssueSellRedeem,
   ClockSetBack,
@@ -24,6 +24,7 @@ ghost use Rattle.portal_model.specs.BatchVectors.{
   StatesOfBatches,
   BeginningsOfCodes,
   OrderOfBatches,
+  RedemptionsOfCodes,
 };
 ghost use Rattle.portal_model.specs.VerdictVectors.{
   LoadVerdicts,
@@ -76,10 +77,11 @@ pub fn details_vectors_hold()
     ensures last { DetailsOfLast }
 {}
 
-/// Test vectors of the states of batches, of codes that are found by their first characters, and of the order
-/// of batches.
+/// Test vectors of the states of batches, of codes that are found by their first characters, of the order of
+/// batches, and of redemptions.
 pub fn batch_vectors_hold()
     ensures states { StatesOfBatches }
     ensures beginnings { BeginningsOfCodes }
     ensures order { OrderOfBatches }
+    ensures redemptions { RedemptionsOfCodes }
 {}

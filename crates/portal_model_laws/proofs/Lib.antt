@@ -13,6 +13,7 @@ pub mod Judged
 pub mod Keys
 pub mod Leading
 pub mod Listings
+pub mod Members
 pub mod Numbers
 pub mod Once
 pub mod Openings

@@ -50,7 +50,7 @@ last-more : (g : Grant) (gs : List Grant) (d : List ℕ) → last_number (g ∷ 
 last-more g gs d = let own : List Grant = filter (λ x. bytes_eq x.device d) gs in
     cond-ap greatest_session (bytes_eq g.device d) (g ∷ own) own
 
-last-low : (gs : List Grant) (d : List ℕ) → last_number gs d ≤ greatest_session gs
+pub last-low : (gs : List Grant) (d : List ℕ) → last_number gs d ≤ greatest_session gs
 last-low [] d = omega arith
 last-low (g ∷ gs) d = rw (last-more g gs d) (go (bytes_eq g.device d) (last-low gs d))
   where

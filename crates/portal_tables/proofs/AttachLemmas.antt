@@ -6,7 +6,7 @@ use Rattle.portal_tables.proofs.Common.{Contents, Holds, HoldsIn, this_schema_ve
 use Rattle.portal_tables.proofs.Common.{CrashStateHasOthers, are_names_free, QueryAnswers, IsOneRow}
 use Rattle.portal_tables.proofs.Common.{GivesSchemaVersion, is_usable_schema, HasMigrated, version_number}
 use Rattle.portal_tables.proofs.Common.{migrated_rows, OldSchema, First, Second, Third, Fourth, IsCarried}
-use Rattle.portal_tables.proofs.Common.{Fifth, []}
+use Rattle.portal_tables.proofs.Common.{Fifth, Sixth, []}
 use Rattle.portal_tables.proofs.Common.{IsCompleted, CrashStateCarries, MayBeMigrated, HasNoActionOnOurs}
 use Rattle.portal_tables.proofs.Common.{GivesKnownVersion, HasNoTableOnOurs, MayBeCarried, hangs_on_ours}
 use Rattle.portal_tables.proofs.Common.{is_entangled, true≢false}
@@ -105,7 +105,7 @@ completes old mid new tells same did = go did.holds
     others t h = subst (λ (was : Database). KeepsOthers was new.now) same.0.now_is (did.others t (here t h))
 
     go : ((t : Contents) → HoldsIn this_schema_version [] mid.now t → Holds new.now t) ⊎ ((t : Contents)
-        → HoldsIn this_schema_version [] mid.now t → Holds new.now (migrated_rows Fifth t))
+        → HoldsIn this_schema_version [] mid.now t → Holds new.now (migrated_rows Sixth t))
         → IsCarried old new
     go (inl kept) = record {
       carries = inl (tells, λ t h. (kept t (here t h), others t h));
@@ -114,7 +114,7 @@ completes old mid new tells same did = go did.holds
       same = did.same;
     }
     go (inr up) = record {
-      carries = inr (Fifth, tells, λ t h. (up t (here t h), others t h));
+      carries = inr (Sixth, tells, λ t h. (up t (here t h), others t h));
       is_open = did.is_open;
       ended = did.ended;
       same = did.same;
@@ -126,6 +126,7 @@ known Second = (lit≤ tt, lit≤ tt)
 known Third = (lit≤ tt, lit≤ tt)
 known Fourth = (lit≤ tt, lit≤ tt)
 known Fifth = (lit≤ tt, lit≤ tt)
+known Sixth = (lit≤ tt, lit≤ tt)
 
 -- the schema version that was read
 module _ (from : OldSchema) (old mid new : State) {o : Option ℕ}
@@ -163,9 +164,9 @@ module _ (from : OldSchema) (old mid new : State) {o : Option ℕ}
 
 pub completed_done : (old mid new : State) {o : Option ℕ}
     → (HasCleanDisk mid → GivesSchemaVersion old.now o × IsUnchanged old mid) → o ≡ Some this_schema_version
-    → Survives mid new (MayBeMigrated Fifth mid) → HasCleanDisk new
+    → Survives mid new (MayBeMigrated Sixth mid) → HasCleanDisk new
     → old.now ≡ old.committed
     → (IsTrue mid.is_open → mid.now ≡ mid.committed → IsCompleted mid new) → IsCarried old new
 completed_done old mid new look told later clean settled did =
-    let it = seen Fifth old mid new look told later (omega (arith, clean, later.clean)) in
+    let it = seen Sixth old mid new look told later (omega (arith, clean, later.clean)) in
     completes old mid new it.0 it.1 (did it.1.0.is_open (it.1.0.now_is ∙ settled ∙ sym it.1.0.committed_is))

@@ -6,7 +6,7 @@ use Rattle.portal_tables.proofs.Common.{HasCleanDisk, Survives, survives_weaker,
 use Rattle.portal_tables.proofs.Common.{IsAsBefore, CrashStateHolds, at_open, new_store, Holds}
 use Rattle.portal_tables.proofs.Common.{CrashStateHoldsRows, this_schema_version, KeepsOthers}
 use Rattle.portal_tables.proofs.Common.{CrashStateHasOthers, others_none, version_number, OldSchema, First}
-use Rattle.portal_tables.proofs.Common.{Fifth}
+use Rattle.portal_tables.proofs.Common.{Fifth, Sixth}
 use Rattle.portal_tables.proofs.Common.{Second, Third, Fourth, GivesSchemaVersion, Refused, KeepsOrMigrates}
 use Rattle.portal_tables.proofs.Common.{Stays, IsMigrated, FailsToAttach, HeadIsNoView, IsExactCause, IsKnown}
 use Rattle.portal_tables.proofs.Common.{AreTablesReady, IsCauseIn, CrashStateCarries, MayAttach}
@@ -37,14 +37,14 @@ never_both schema one none = absurd (true≢false (sym one ∙ none))
 named : (schema_version : ℕ) (L : Ledger) (db : Database) → HoldsLedgerIn schema_version L db
     → IsAnyNameTaken db.schema
 named schema_version L db shown = let place = (shown.holds.places our.Head) in
-    head_named db.schema place.at place.tree (shown.holds.tables_exist.tables our.Head (always _)).exists
+    head_named db.schema place.at place.tree (shown.holds.tables_exist.tables our.Head (always _, tt)).exists
 
 -- the head gives the schema version
 tells_it : (schema_version : ℕ) (L : Ledger) (db : Database) → HoldsLedgerIn schema_version L db
     → 1 ≤ schema_version → (o : Option ℕ) → GivesSchemaVersion db o → o ≡ Some schema_version
 tells_it schema_version L db shown low = let place = (shown.holds.places our.Head) in
-    tells db place.at place.tree _ (shown.holds.tables_exist.tables our.Head (always _)).exists
-    (shown.holds.store our.Head (always _)) low
+    tells db place.at place.tree _ (shown.holds.tables_exist.tables our.Head (always _, tt)).exists
+    (shown.holds.store our.Head (always _, tt)) low
 
 low_enough : (from : OldSchema) → 1 ≤ version_number from
 low_enough First = lit≤ tt
@@ -52,6 +52,7 @@ low_enough Second = lit≤ tt
 low_enough Third = lit≤ tt
 low_enough Fourth = lit≤ tt
 low_enough Fifth = lit≤ tt
+low_enough Sixth = lit≤ tt
 
 high_enough : (from : OldSchema) → version_number from ≤ this_schema_version
 high_enough First = lit≤ tt
@@ -59,6 +60,7 @@ high_enough Second = lit≤ tt
 high_enough Third = lit≤ tt
 high_enough Fourth = lit≤ tt
 high_enough Fifth = lit≤ tt
+high_enough Sixth = lit≤ tt
 
 tells_old : (from : OldSchema) (L : Ledger) (db : Database) → HoldsLedgerIn (version_number from) L db
     → (o : Option ℕ) → GivesSchemaVersion db o → o ≡ Some (version_number from)
@@ -67,7 +69,7 @@ tells_old from L db shown = tells_it (version_number from) L db shown (low_enoug
 -- a schema version is known by its number
 abbrev by_number : ℕ → OldSchema
 by_number n = cond (nat_eq n 1) First (cond (nat_eq n 2) Second
-    (cond (nat_eq n 3) Third (cond (nat_eq n 4) Fourth Fifth)))
+    (cond (nat_eq n 3) Third (cond (nat_eq n 4) Fourth (cond (nat_eq n 5) Fifth Sixth))))
 
 numbered_back : (from : OldSchema) → by_number (version_number from) ≡ from
 numbered_back First = refl
@@ -75,6 +77,7 @@ numbered_back Second = refl
 numbered_back Third = refl
 numbered_back Fourth = refl
 numbered_back Fifth = refl
+numbered_back Sixth = refl
 
 same_number : {a b : ℕ} → ◌≡◌ {A = Option ℕ} (Some a) (Some b) → a ≡ b
 same_number e = cc
@@ -86,7 +89,7 @@ same_layout a b e = sym (numbered_back a) ∙ ap by_number (same_number e) ∙ n
 -- a database of this schema version, as one that may lack an index
 as_older : (L : Ledger) (db : Database) → HoldsLedger L db → HoldsOlder L db
 as_older L db shown = (
-  Fifth,
+  Sixth,
   record {
     sound = shown.0;
     unmarked = λ few. absurd (omega (arith, few));
@@ -107,8 +110,8 @@ new_shown L db none holds = subst (λ x. HoldsLedger x db) (sym none) (tt, holds
 stays_shown : (from : OldSchema) (L : Ledger) (old new : Database) → Stays old new
     → HoldsLedgerIn (version_number from) L old → HoldsLedger L new × KeepsOthers old new
 stays_shown from L old new kept shown =
-    let is : Fifth ≡ from =
-    same_layout Fifth from (tells_old from L old shown (Some this_schema_version) kept.0) in
+    let is : Sixth ≡ from =
+    same_layout Sixth from (tells_old from L old shown (Some this_schema_version) kept.0) in
     let here : HoldsLedgerIn this_schema_version L old =
     subst (λ (f : OldSchema). HoldsLedgerIn (version_number f) L old) (sym is) shown in
     let led = kept.1 _ here.holds in

@@ -40,6 +40,8 @@ use Rattle.portal_model_laws.proofs.Basics.{map-map, filter-map}
 use Rattle.portal_tables.specs.BatchLists.{AreVouchersOf}
 use Rattle.portal_tables.proofs.ListLaws.{codes_listed, same_codes}
 use Rattle.portal_tables_rows.proofs.OwnRows.{listed_own, has_taken}
+use Rattle.portal_tables_rows.specs.Audit.{AreAmong}
+use Rattle.portal_tables.proofs.Common.{voucher_count, count_kept, counts_of}
 
 abbrev pub code_of_row : VoucherValue → List ℕ
 code_of_row row = row.code
@@ -47,10 +49,13 @@ code_of_row row = row.code
 -- rows that are listed are of the history
 pub rows_listed : (h : History) (passes : VoucherRow → Bool) (cmp : VoucherRow → VoucherRow → Ordering)
     (rows : List VoucherValue) → Lists passes cmp (map voucher_kept (vouchers_of h)) (map voucher_read rows)
-    → AreVouchersOf h rows
-rows_listed h passes cmp rows l row has =
-    listed_own (Has (map voucher_kept (vouchers_of h))) passes cmp (map voucher_kept (vouchers_of h))
-    (map voucher_read rows) l (λ p among on. among) (voucher_read row) (has_mapped voucher_read rows row has)
+    → AreAmong (map voucher_count rows) (map count_kept (counts_of h)) → AreVouchersOf h rows
+rows_listed h passes cmp rows l counted row has = (
+  listed_own (Has (map voucher_kept (vouchers_of h))) passes cmp (map voucher_kept (vouchers_of h))
+      (map voucher_read rows) l (λ p among on. among) (voucher_read row)
+      (has_mapped voucher_read rows row has),
+  counted (voucher_count row) (has_mapped voucher_count rows row has),
+)
 
 -- the rows of a batch have its codes
 pub batch_codes_are : (h : History) → IsLegal h → (id : List ℕ) (rows : List VoucherValue)
@@ -70,10 +75,11 @@ batch_codes_are h legal id rows codes l =
 pub vouchers_are_in : (h : History) → IsLegal h → (id : List ℕ) (rows : List VoucherValue)
     (vouchers : List Voucher) → All (λ row. IsCode (code_of_row row)) rows
     → Lists (λ (v : VoucherRow). bytes_eq id v.batch) by_place (map voucher_kept (vouchers_of h))
-    (map voucher_read rows)
+    (map voucher_read rows) → AreAmong (map voucher_count rows) (map count_kept (counts_of h))
     → (AreVouchersOf h rows → vouchers ≡ filter_map (voucher_of h) (map code_of_row rows))
     → vouchers ≡ vouchers_in h id
-vouchers_are_in h legal id rows vouchers codes l made = made (rows_listed h _ by_place rows l)
+vouchers_are_in h legal id rows vouchers codes l counted made =
+    made (rows_listed h _ by_place rows l counted)
     ∙ ap (filter_map (voucher_of h)) (batch_codes_are h legal id rows codes l)
 
 -- one voucher more
@@ -111,13 +117,16 @@ module _ (h : History) (legal : IsLegal h) (text : List ℕ) (some : 0 < length 
   like_test v = between_begins text (text_of v.code) some
 
   module _ (rows : List VoucherValue) (typed : All (λ row. IsCode (code_of_row row)) (take 50 rows))
-      (l : ListsFirst 51 passes by_code (map voucher_kept (vouchers_of h)) (map voucher_read rows)) where
+      (l : ListsFirst 51 passes by_code (map voucher_kept (vouchers_of h)) (map voucher_read rows))
+      (counted : AreAmong (map voucher_count rows) (map count_kept (counts_of h))) where
     rows_like : AreVouchersOf h rows
     rows_like row has =
         let among : Has l.all (voucher_read row) = has_taken 51 l.all (voucher_read row)
-        (subst (λ rs. Has rs (voucher_read row)) l.first (has_mapped voucher_read rows row has)) in
-        listed_own (Has (map voucher_kept (vouchers_of h))) passes by_code (map voucher_kept (vouchers_of h))
-        l.all l.lists (λ p has on. has) (voucher_read row) among
+        (subst (λ rs. Has rs (voucher_read row)) l.first (has_mapped voucher_read rows row has)) in (
+          listed_own (Has (map voucher_kept (vouchers_of h))) passes by_code
+              (map voucher_kept (vouchers_of h)) l.all l.lists (λ p has on. has) (voucher_read row) among,
+          counted (voucher_count row) (has_mapped voucher_count rows row has),
+        )
 
     -- the rows of the history, in this order
     back : (back : List VoucherRow)

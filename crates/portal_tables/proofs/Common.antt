@@ -35,6 +35,7 @@ pub use Rattle.portal_tables_rows.specs.SchemaVersions.{is_any_name_taken, is_us
 pub use Rattle.portal_tables_rows.specs.SchemaVersions.{hangs_on_ours, is_entangled, is_indexed}
 pub use Rattle.portal_tables_rows.specs.declared.schema_versions.OldSchema.{OldSchema}
 pub use Rattle.portal_tables_rows.specs.declared.schema_versions.OldSchema.TheVariants.{Fifth, First, Fourth}
+pub use Rattle.portal_tables_rows.specs.declared.schema_versions.OldSchema.TheVariants.{Sixth}
 pub use Rattle.portal_tables_rows.specs.declared.schema_versions.OldSchema.TheVariants.{Second}
 pub use Rattle.portal_tables_rows.specs.declared.schema_versions.OldSchema.TheVariants.{Third}
 pub use Rattle.portal_ledger.proofs.Ledgers.{kept_under, the_held_is_row, the_sound_is_legal}
@@ -47,7 +48,7 @@ pub use Rattle.portal_ledger.specs.declared.marked.MarkedChanges.{MarkedChanges}
 pub use Rattle.portal_ledger.specs.declared.request.KeptRequest.{KeptRequest}
 pub use Rattle.portal_tables_rows.proofs.SameCode.{code_test, same_code}
 pub use Rattle.portal_tables_rows.proofs.WholeReading.{first_held, first_there}
-pub use Rattle.portal_tables_rows.specs.Lists.{Lists, ListsAs, by_number, by_place, by_refund, by_sale}
+pub use Rattle.portal_tables_rows.specs.Lists.{Lists, ListsAs, by_place, by_refund, by_sale}
 pub use Rattle.portal_tables_rows.specs.Lists.{is_left, is_within, may_be_open, numbers_open, refund_read}
 pub use Rattle.portal_tables_rows.specs.Lists.{refund_columns, sale_read, sale_columns}
 pub use Rattle.portal_tables_rows.specs.Sums.{rows_for_sums}
@@ -84,11 +85,11 @@ pub use Rattle.portal_tables_rows.specs.First.{HasFirst}
 pub use Rattle.portal_tables_rows.specs.Holds.{HasTables, Holds, HoldsIn, CrashStateHoldsRows, TablePlaces}
 pub use Rattle.portal_tables_rows.specs.Holds.{TablesExist, this_schema_version}
 pub use Rattle.portal_tables_rows.specs.Others.{KeepsOthers, CrashStateHasOthers}
-pub use Rattle.portal_tables_rows.specs.Read.{count_read, head_read, session_read, voucher_read}
+pub use Rattle.portal_tables_rows.specs.Read.{head_read, session_read, session_total, voucher_count}
+pub use Rattle.portal_tables_rows.specs.Read.{voucher_read}
 pub use Rattle.portal_tables_rows.specs.Steps.{CommitsRows, MayCommitRows, with_ends_if, ends_row}
 pub use Rattle.portal_tables_rows.specs.Steps.{with_moment, with_use}
 pub use Rattle.portal_tables_rows.specs.declared.rows.RowError.{RowError}
-pub use Rattle.portal_tables_rows.specs.declared.rows.CountValue.{CountValue}
 pub use Rattle.portal_tables_rows.specs.declared.rows.SessionValue.{SessionValue}
 pub use Rattle.portal_tables_rows.specs.declared.rows.VoucherValue.{VoucherValue}
 pub use Rattle.portal_tables_rows.specs.declared.column_values.Total.{Total}

@@ -118,6 +118,11 @@ module _ {X : Type 0} (key : X → ℕ) where
       → IsPermutation xs ys → IsSorted (λ a b. nat_cmp (key a) (key b)) ys → ys ≡ xs
   in_order from count xs ys is same sorted = same_order xs ys (rises from count xs is) same (climbs ys sorted)
 
+  -- a list that rises is the one sorted order of its elements
+  pub in_one_order : (xs ys : List X) → IsAscending (λ a b. key a < key b) xs → IsPermutation xs ys
+      → IsSorted (λ a b. nat_cmp (key a) (key b)) ys → ys ≡ xs
+  in_one_order xs ys strict same sorted = same_order xs ys strict same (climbs ys sorted)
+
 pub filter_true : {X : Type 0} (xs : List X) → filter (λ _. true) xs ≡ xs
 filter_true [] = refl
 filter_true (x ∷ xs) = ap (λ ys. x ∷ ys) (filter_true xs)

@@ -13,8 +13,8 @@ use Rattle.portal_tables.proofs.Common.{total_among, last_among, voucher_of_rows
 use Rattle.portal_tables.proofs.Common.{voucher_from, session_from, last_session_from, allowance_from}
 use Rattle.portal_tables.proofs.Common.{IsLegal, has_duplicate, session_is_row, last_session_is_row}
 use Rattle.portal_tables.proofs.Common.{rows_are_numbered, keys_apart, rows_are_typed, FindsLast}
-use Rattle.portal_tables.proofs.Common.{VoucherValue, SessionValue, CountValue, Total, HeadRow, ends_row}
-use Rattle.portal_tables.proofs.Common.{head_read, voucher_read, session_read, count_read, has_image}
+use Rattle.portal_tables.proofs.Common.{VoucherValue, SessionValue, HeadRow, voucher_count, session_total}
+use Rattle.portal_tables.proofs.Common.{head_read, voucher_read, session_read, has_image}
 use Rattle.portal_tables.proofs.Common.{has_mapped, head_kept, voucher_kept, session_kept, count_kept}
 use Rattle.portal_tables.proofs.Common.{IsRowOf, this_schema_version, same_code}
 use Rattle.std.proofs.Math.Bool.{or-false}
@@ -108,11 +108,11 @@ module _ (h : History) (legal : IsLegal h) (code : List ℕ) (is : IsCode code) 
         named,
       )
 
-  count_found : (count : CountValue) → Finds (λ (x : CountRow). x.code)
-      (text_of code) (map count_kept (counts_of h)) (Some (count_read count))
+  count_found : (count : CountRow) → Finds (λ (x : CountRow). x.code)
+      (text_of code) (map count_kept (counts_of h)) (Some count)
       → (x : CountRow) × (count_among (counts_of h) code ≡ Some x) × (count.redeemed ≡ x.redeemed)
   count_found count f =
-      let it = has_image count_kept (counts_of h) (count_read count) f.0 in
+      let it = has_image count_kept (counts_of h) count f.0 in
       let named = the_counts it.0 it.1 (ap (λ (k : CountRow). k.code) (sym it.2) ∙ f.1) in (
         it.0,
         finds_it (λ (k : CountRow). k.code) bytes_eq same_bytes code (counts_of h)
@@ -135,11 +135,11 @@ module _ (h : History) (legal : IsLegal h) (code : List ℕ) (is : IsCode code) 
   held_is (Some row) f = let it = row_found row f in
       sym (held_by_row ∙ ap (λ (o : Option VoucherRow). is_some o) it.1)
 
-  pub voucher_joined : (row : VoucherValue) (count : CountValue) (batch : Batch) (plan : Plan)
+  pub voucher_joined : (row : VoucherValue) (batch : Batch) (plan : Plan)
       → Finds (λ (x : VoucherRow). x.code) (text_of code) (map voucher_kept (vouchers_of h))
       (Some (voucher_read row))
-      → Finds (λ (x : CountRow). x.code) (text_of code) (map count_kept (counts_of h))
-      (Some (count_read count)) → batch_of h row.batch ≡ Some batch → plan_of h batch.plan ≡ Some plan
+      → Has (map count_kept (counts_of h)) (voucher_count row) → batch_of h row.batch ≡ Some batch → plan_of h
+      batch.plan ≡ Some plan
       → Some (record {
         code = code;
         batch = row.batch;
@@ -147,11 +147,11 @@ module _ (h : History) (legal : IsLegal h) (code : List ℕ) (is : IsCode code) 
         expires = batch.expires;
         sold = row.sold;
         refund = row.amount;
-        redeemed = count.redeemed;
+        redeemed = row.redeemed;
       }) ≡ voucher_of h code
-  voucher_joined row count batch plan f k b p =
+  voucher_joined row batch plan f k b p =
       let r = row_found row f in
-      let n = count_found count k in
+      let n = count_found (voucher_count row) (k, f.1) in
       let batch_is : row.batch ≡ r.0.batch = ap (λ (v : VoucherRow). v.batch) r.2 in
       let sold_is : row.sold ≡ r.0.sold = ap (λ (v : VoucherRow). v.sold) r.2 in
       let amount_is : row.amount ≡ r.0.amount = ap (λ (v : VoucherRow). v.amount) r.2 in
@@ -167,7 +167,7 @@ module _ (h : History) (legal : IsLegal h) (code : List ℕ) (is : IsCode code) 
         expires = batch.expires;
         sold = row.sold;
         refund = row.amount;
-        redeemed = count.redeemed;
+        redeemed = row.redeemed;
       } =
       λ i. record {
         code = r.3 i;
@@ -214,26 +214,25 @@ module _ (h : History) (legal : IsLegal h) where
 
   pub row_of_number : (n : ℕ) (row : SessionValue)
       → Finds (λ (x : SessionRow). x.number) n (map session_kept (sessions_of h)) (Some (session_read row))
-      → IsRowOf h row × (row.number ≡ n)
-  row_of_number n row f = let it = has_image session_kept (sessions_of h) (session_read row) f.0 in
-      (record { of_history = it.0; among = it.1; is = it.2 }, f.1)
+      → Has (totals_of h) (session_total row) → IsRowOf h row × (row.number ≡ n)
+  row_of_number n row f total = let it = has_image session_kept (sessions_of h) (session_read row) f.0 in
+      (record { of_history = it.0; among = it.1; is = it.2; totaled = total }, f.1)
 
-  pub session_joined : (row : SessionValue) (total : Total) (plan : Plan) (allowance : Option ℕ)
+  pub session_joined : (row : SessionValue) (plan : Plan) (allowance : Option ℕ)
       → IsDevice row.device → IsRowOf h row
-      → Finds (λ (x : TotalRow). x.number) row.number (totals_of h) (Some (ends_row total))
-      → plan_of h row.plan ≡ Some plan → allowance ≡ allowance_from total.remaining row.used
+      → plan_of h row.plan ≡ Some plan → allowance ≡ allowance_from row.remaining row.used
       → Some (record {
         number = row.number;
         device = row.device;
         plan = row.plan;
         extend = plan.extend;
         opened = row.opened;
-        ends = total.ends;
+        ends = row.ends;
         allowance = allowance;
         used = row.used;
         closed = row.closed;
       }) ≡ session_of h row.number
-  session_joined row total plan allowance device it f p granted =
+  session_joined row plan allowance device it p granted =
       let x = it.of_history in
       let number_is : row.number ≡ x.number = ap (λ (s : SessionRow). s.number) it.is in
       let plan_is : row.plan ≡ x.plan = ap (λ (s : SessionRow). s.plan) it.is in
@@ -245,20 +244,20 @@ module _ (h : History) (legal : IsLegal h) where
       (rows_are_typed h legal).sessions it.among) (ap (λ (s : SessionRow). s.device) it.is) in
       let a : session_among (sessions_of h) row.number ≡ Some x = finds_it (λ (s : SessionRow). s.number)
       nat_eq same_numbers row.number (sessions_of h) sessions_apart x it.among (sym number_is) in
-      let b : total_among (totals_of h) row.number ≡ Some (ends_row total) =
+      let b : total_among (totals_of h) row.number ≡ Some (session_total row) =
       finds_it (λ (m : TotalRow). m.number) nat_eq same_numbers row.number (totals_of h) totals_apart
-      (ends_row total) f.0 f.1 in
+      (session_total row) it.totaled refl in
       let c : plan_among (plans_of h) x.plan ≡ Some plan =
       sym (plan_is_row h x.plan) ∙ ap (plan_of h) (sym plan_is) ∙ p in
-      let all : session_from (rows_of h) row.number ≡ Some (session_of_rows x (ends_row total) plan) =
+      let all : session_from (rows_of h) row.number ≡ Some (session_of_rows x (session_total row) plan) =
       rw (a, b, c) refl in
-      let same : session_of_rows x (ends_row total) plan ≡ record {
+      let same : session_of_rows x (session_total row) plan ≡ record {
         number = row.number;
         device = row.device;
         plan = row.plan;
         extend = plan.extend;
         opened = row.opened;
-        ends = total.ends;
+        ends = row.ends;
         allowance = allowance;
         used = row.used;
         closed = row.closed;
@@ -269,8 +268,8 @@ module _ (h : History) (legal : IsLegal h) where
         plan = sym plan_is i;
         extend = plan.extend;
         opened = sym opened_is i;
-        ends = total.ends;
-        allowance = (ap (allowance_from total.remaining) (sym used_is) ∙ sym granted) i;
+        ends = row.ends;
+        allowance = (ap (allowance_from row.remaining) (sym used_is) ∙ sym granted) i;
         used = sym used_is i;
         closed = sym closed_is i;
       } in
@@ -362,9 +361,9 @@ module _ (h : History) (legal : IsLegal h) where
 
   pub last_found : (d : List ℕ) → IsDevice d → (row : SessionValue)
       → FindsLast (λ (x : SessionRow). x.device) (text_of_device d) (λ (x : SessionRow). x.number)
-      (map session_kept (sessions_of h)) (Some (session_read row))
+      (map session_kept (sessions_of h)) (Some (session_read row)) → Has (totals_of h) (session_total row)
       → IsRowOf h row × (last_session_of h d ≡ session_of h row.number)
-  last_found d device row f =
+  last_found d device row f totaled =
       let it = has_image session_kept (sessions_of h) (session_read row) f.0 in
       let x = it.0 in
       let number_is : row.number ≡ x.number = ap (λ (s : SessionRow). s.number) it.2 in
@@ -379,7 +378,7 @@ module _ (h : History) (legal : IsLegal h) where
       let last : last_among (sessions_of h) d ≡ Some x = last_is d x 1 (head_of h).sessions (sessions_of h)
       (rows_are_numbered h legal).sessions it.1 named most in
       let all : last_session_from (rows_of h) d ≡ session_from (rows_of h) x.number = rw last refl in (
-        record { of_history = x; among = it.1; is = it.2 },
+        record { of_history = x; among = it.1; is = it.2; totaled = totaled },
         last_session_is_row h legal d ∙ all ∙ sym (session_is_row h legal x.number)
             ∙ ap (session_of h) (sym number_is),
       )

@@ -18,6 +18,8 @@ pub mod OthersLemmas
 pub mod PathLemmas
 pub mod PaymentLists
 pub mod PriceLemmas
+pub mod RedemptionLemmas
+pub mod RedemptionRows
 pub mod Reported
 pub mod ShownLemmas
 pub mod Spelled

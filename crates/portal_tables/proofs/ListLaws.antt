@@ -4,17 +4,17 @@ use Rattle.portal_tables.proofs.Common.{◌&&◌, is_none, cond, Option, Some, N
 use Rattle.portal_tables.proofs.Common.{subst, ◌∙◌, arith, bytes_eq, nat_lt, filter_map, cons_option}
 use Rattle.portal_tables.proofs.Common.{range_with_len, IsPermutation, nat_tests, ints, All-head, All-tail}
 use Rattle.portal_tables.proofs.Common.{All-map, All-filter, All-weaker, filter-filter, IsCode, text_of}
-use Rattle.portal_tables.proofs.Common.{Session, all_sessions, History, codes_of, grants_of, head_of}
+use Rattle.portal_tables.proofs.Common.{Session, all_sessions, History, codes_of, grants_of}
 use Rattle.portal_tables.proofs.Common.{session_of, kept_if, is_below, is_open_at, VoucherRow, TotalRow}
 use Rattle.portal_tables.proofs.Common.{vouchers_of, totals_of, openings, session_opened, total_row}
-use Rattle.portal_tables.proofs.Common.{remaining_of, IsLegal, rows_are_numbered, IsFirst, openings_first}
-use Rattle.portal_tables.proofs.Common.{session_at, rows_are_typed, agree, Lists, ListsAs, by_place}
-use Rattle.portal_tables.proofs.Common.{by_number, is_left, may_be_open, numbers_open, open_session_of}
+use Rattle.portal_tables.proofs.Common.{remaining_of, IsLegal, IsFirst, openings_first}
+use Rattle.portal_tables.proofs.Common.{session_at, rows_are_typed, agree, ListsAs, by_place}
+use Rattle.portal_tables.proofs.Common.{is_left, may_be_open, numbers_open, open_session_of}
 use Rattle.portal_tables.proofs.Common.{voucher_kept, same_code}
 use Rattle.std.specs.Prelude.{int_lt}
 use Rattle.portal_model_laws.proofs.Basics.{map-map, filter-map, bytes_swap}
 use Rattle.portal_model_laws.proofs.Listings.{codes_are_rows}
-use Rattle.portal_tables.proofs.InOrder.{in_order, filter_true}
+use Rattle.portal_tables.proofs.InOrder.{in_order}
 
 -- ---- the codes of a batch
 
@@ -78,13 +78,6 @@ still_open t s h = go (is_none s.closed) (is_below t s.ends) s.allowance h
     go false b o h = absurd (cc)
 
 module _ (h : History) (legal : IsLegal h) where
-  totals_listed : (totals : List TotalRow)
-      → Lists (λ _. true) by_number (totals_of h) totals → totals ≡ totals_of h
-  totals_listed totals l =
-      in_order (λ (m : TotalRow). m.number) 1 (head_of h).sessions
-      (totals_of h) totals (rows_are_numbered h legal).totals
-      (subst (λ xs. IsPermutation xs totals) (filter_true (totals_of h)) l.same) l.sorted
-
   -- the numbers of the sessions that may be open
   numbers_are : (t : ℕ) → numbers_open t (totals_of h) ≡ map (λ (s : Session). s.number)
       (filter (λ (s : Session). may_be_open t (total_row s)) (all_sessions h))
@@ -120,14 +113,13 @@ module _ (h : History) (legal : IsLegal h) where
       go true same = ap (λ xs. s ∷ xs) same
       go false same = same
 
-  pub open_listed : (t : ℕ) (totals : List TotalRow) (numbers : List ℕ) (sessions : List Session)
-      → Lists (λ _. true) by_number (totals_of h) totals → numbers ≡ numbers_open t totals
-      → sessions ≡ filter_map (open_session_of h t) numbers
+  pub open_listed : (t : ℕ) (numbers : List ℕ) (sessions : List Session)
+      → numbers ≡ numbers_open t (totals_of h) → sessions ≡ filter_map (open_session_of h t) numbers
       → sessions ≡ filter (is_open_at t) (all_sessions h)
-  open_listed t totals numbers sessions l is found =
+  open_listed t numbers sessions is found =
       let may : Session → Bool = λ (s : Session). may_be_open t (total_row s) in
       found
       ∙ ap (filter_map (open_session_of h t))
-      (is ∙ ap (numbers_open t) (totals_listed totals l) ∙ numbers_are t)
+      (is ∙ numbers_are t)
       ∙ kept_open t (filter may (all_sessions h)) (All-filter may IsNumbered (all_sessions h) numbered)
       ∙ filter-filter (is_open_at t) may (still_open t) (all_sessions h)

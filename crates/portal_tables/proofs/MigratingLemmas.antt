@@ -13,7 +13,7 @@ use Rattle.portal_tables.proofs.Common.{KeptRequest, Accepted, Ledger, IsSound, 
 use Rattle.portal_tables.proofs.Common.{kept_with, request_kept, requests_of, all_rows_of, RequestRow}
 use Rattle.portal_tables.proofs.Common.{row_of_request, the_sound_is_legal, HasMigrated, MayMigrate}
 use Rattle.portal_tables.proofs.Common.{version_number, migrated_rows, OldSchema, First, Second, Third}
-use Rattle.portal_tables.proofs.Common.{Fifth}
+use Rattle.portal_tables.proofs.Common.{Fifth, Sixth}
 use Rattle.portal_tables.proofs.Common.{Fourth, voucher_kept, session_kept, grant_kept, count_kept}
 use Rattle.portal_tables.proofs.Common.{contents_of, all_contents_of, HoldsLedger, code_test}
 use Rattle.std.proofs.Common.{option_to_list}
@@ -118,6 +118,7 @@ upgraded_is Second L sound few =
 upgraded_is Third L sound few = refl
 upgraded_is Fourth L sound few = refl
 upgraded_is Fifth L sound few = refl
+upgraded_is Sixth L sound few = refl
 
 -- ---- what a connection represents
 

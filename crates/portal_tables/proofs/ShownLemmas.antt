@@ -1,6 +1,4 @@
 -- A database that a read does not change holds the same history.
-use Rattle.portal_tables.proofs.Common.{false}
-use Rattle.portal_tables_sql.specs.Indexes.{our_indexes}
 use Rattle.portal_tables.proofs.Common.{IsTrue, List, map, subst, sym, arith, Result, Ok, Err, IsErrAnd}
 use Rattle.portal_tables.proofs.Common.{err_from_is_err_and, IfOk-weaker, Held, state, Database, State}
 use Rattle.portal_tables.proofs.Common.{HasCleanDisk, History, Ledger, history_of, requests_of, rows_of}
@@ -72,7 +70,7 @@ module _ {S : Type 0} (g : Ghosts S) where
     found = λ clean live h shown. IfOk-weaker result _ _ (λ x is. (
       shown.1.0,
       is,
-    )) (r.found clean _ (first_held false this_schema_version our_indexes _ _ shown.1.1));
+    )) (r.found clean _ (first_held _ _ shown.1.1));
     looks = looks_weaker HasFirst HasTables first_there result _ _ r.looks;
   }
 

@@ -17,7 +17,7 @@ use Rattle.portal_tables_rows.specs.SchemaVersions.{GivesSchemaVersion, hangs_on
 use Rattle.portal_tables_rows.specs.SchemaVersions.{is_entangled, is_indexed}
 use Rattle.portal_tables_rows.specs.Migrations.{MayMigrate, version_number, migrated_rows}
 use Rattle.portal_tables_rows.specs.declared.schema_versions.OldSchema.{OldSchema}
-use Rattle.portal_tables_rows.specs.declared.schema_versions.OldSchema.TheVariants.{Fifth}
+use Rattle.portal_tables_rows.specs.declared.schema_versions.OldSchema.TheVariants.{Sixth}
 use Rattle.portal_tables.specs.declared.errors.OpenFault.{OpenFault}
 use Rattle.portal_tables.specs.declared.errors.OpenFault.TheVariants.{NotOurs, Newer, Memory, Store}
 use Rattle.portal_tables.specs.declared.attaching.Refused.{Refused}
@@ -102,7 +102,7 @@ MayBeMigrated from old trees =
 pub record IsCompleted (old new : State) : Type 0 where
   pub holds : ((t : Contents) → HoldsIn this_schema_version [] old.now t → Holds new.now t)
       ⊎ ((t : Contents) → HoldsIn this_schema_version [] old.now t
-      → Holds new.now (migrated_rows Fifth t))
+      → Holds new.now (migrated_rows Sixth t))
   pub others : (t : Contents) → HoldsIn this_schema_version [] old.now t → KeepsOthers old.now new.now
   pub is_open : IsTrue new.is_open
   pub ended : new.in_transaction ≡ false

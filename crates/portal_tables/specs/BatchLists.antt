@@ -3,12 +3,12 @@ use Rattle.std.specs.Prelude.{◌≡◌, ◌+◌, ℕ, List, [], ◌∷◌, map,
 use Rattle.sqlite_rules.specs.Lists.{Has}
 use Rattle.portal_model.specs.History.{History, plan_of, batch_of}
 use Rattle.portal_model.specs.Batches.{is_after, by_issue}
-use Rattle.portal_model.specs.Rows.{vouchers_of, batches_of}
+use Rattle.portal_model.specs.Rows.{vouchers_of, counts_of, batches_of}
 use Rattle.portal_model.specs.declared.record.Batch.{Batch}
-use Rattle.portal_tables.specs.HoldsLedger.{voucher_kept}
+use Rattle.portal_tables.specs.HoldsLedger.{voucher_kept, count_kept}
 use Rattle.portal_tables.specs.declared.batches.Terms.{Terms}
 use Rattle.portal_tables_rows.specs.Lists.{ListsFirst}
-use Rattle.portal_tables_rows.specs.Read.{voucher_read}
+use Rattle.portal_tables_rows.specs.Read.{voucher_read, voucher_count}
 use Rattle.portal_tables_rows.specs.declared.rows.VoucherValue.{VoucherValue}
 
 -- the batch of that id, with its plan, if there are terms
@@ -17,9 +17,10 @@ AreTerms h before =
     IfSome before (λ terms. (batch_of h terms.id ≡ Some terms.batch)
     × (plan_of h terms.batch.plan ≡ Some terms.plan))
 
--- a row that was read is one of the history's
+-- a row that was read is one of the history's, with its count
 abbrev pub IsVoucherOf : History → VoucherValue → Type 0
 IsVoucherOf h row = Has (map voucher_kept (vouchers_of h)) (voucher_read row)
+    × Has (map count_kept (counts_of h)) (voucher_count row)
 
 -- each of them is
 abbrev pub AreVouchersOf : History → List VoucherValue → Type 0

@@ -10,6 +10,7 @@ use Rattle.portal_model.specs.declared.record.Head.{Head}
 use Rattle.portal_model.specs.Device.{text_of_device}
 use Rattle.portal_model.specs.History.{History}
 use Rattle.portal_model.specs.Rows.{Rows, VoucherRow, SessionRow, GrantRow, CountRow, rows_of, sessions_of}
+use Rattle.portal_model.specs.Rows.{totals_of}
 use Rattle.portal_model.specs.Verdict.{IsLegal}
 use Rattle.portal_tables_rows.specs.Contents.{Contents, HeadRow}
 use Rattle.portal_ledger.specs.Ledger.{Ledger, IsSound, AllRows, all_rows_of, held_in}
@@ -19,7 +20,7 @@ use Rattle.portal_ledger.specs.declared.request.KeptRequest.{KeptRequest}
 use Rattle.portal_ledger.specs.RequestRow.{RequestRow, row_of_request}
 use Rattle.portal_tables_sql.specs.Looks.{Looks}
 use Rattle.portal_tables_rows.specs.Holds.{Holds, HasTables, this_schema_version}
-use Rattle.portal_tables_rows.specs.Read.{session_read}
+use Rattle.portal_tables_rows.specs.Read.{session_read, session_total}
 use Rattle.portal_tables_rows.specs.declared.rows.RowError.{RowError}
 use Rattle.portal_tables_rows.specs.declared.rows.SessionValue.{SessionValue}
 
@@ -65,7 +66,7 @@ contents_of requests schema_version r = record {
   requests = requests;
 }
 
--- the rows of all nine tables as the tables store them
+-- the rows of all tables as the tables store them
 abbrev pub all_contents_of : ℕ → AllRows → Contents
 all_contents_of schema_version r = contents_of (map row_of_request r.requests) schema_version r.rows
 
@@ -88,11 +89,12 @@ pub record ReadsHistory {S A : Type 0} (g : Ghosts S) (old new : Held S) (result
   pub found : OfHistory (state g old) (state g new) (λ h. IfOk result (Is h))
   pub looks : Looks HasTables result (state g old) (state g new)
 
--- a row that was read is one of the history's
+-- a row that was read is one of the history's, with its total
 pub record IsRowOf (h : History) (row : SessionValue) : Type 0 where
   pub of_history : SessionRow
   pub among : Has (sessions_of h) of_history
   pub is : session_read row ≡ session_kept of_history
+  pub totaled : Has (totals_of h) (session_total row)
 
 -- what holds of each ledger that the open connection held
 abbrev pub OfLedger : State → State → (Ledger → Type 0) → Type 0

@@ -5,6 +5,7 @@ pub mod PaymentLists
 pub mod Older
 pub mod Prices
 pub mod BatchLists
+pub mod RedemptionLists
 pub mod HoldsLedger
 pub mod StoreHolds
 pub mod TablesRepresent

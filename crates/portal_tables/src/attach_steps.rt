@@ -11,7 +11,7 @@ ghost use Rattle.portal_tables_rows.specs.Holds.{Holds, CrashStateHoldsRows, thi
 ghost use Rattle.portal_tables_rows.specs.Others.{KeepsOthers, CrashStateHasOthers};
 ghost use Rattle.portal_tables_rows.specs.SchemaVersions.{GivesSchemaVersion, is_entangled};
 ghost use Rattle.portal_tables_rows.specs.Migrations.{HasMigrated};
-ghost use Rattle.portal_tables_rows.specs.declared.schema_versions.OldSchema.TheVariants.{Fifth};
+ghost use Rattle.portal_tables_rows.specs.declared.schema_versions.OldSchema.TheVariants.{Sixth};
 ghost use Rattle.portal_tables.specs.Attaching.{IsCarried, IsCompleted, IsKnown, AreTablesReady, IsCauseIn};
 ghost use Rattle.portal_tables.specs.Attaching.{
   CrashStateCarries,
@@ -83,7 +83,8 @@ fn create_tables<S: Alter>(conn: &mut Connection<S>) -> Result<(), OpenFault>
 
 /// Migrates the database from an older schema version. If a foreign key acts on one of the product's
 /// table names, if a table of others refers to one of the tables, or if an index of others is on one, it
-/// fails with `Store` and writes nothing: these would not outlive that the tables are made anew.
+/// fails with `Store` and writes nothing: these would not outlive that the tables are made anew. So it does if
+/// the counters are not those of the vouchers and the sessions, in their order.
 fn check_and_migrate<S: Alter>(conn: &mut Connection<S>, from: OldSchema) -> Result<(), OpenFault>
     requires { conn.old.in_transaction ≡ false }
     ensures done { HasCleanDisk (state S.Store conn.new) → IsTrue (state S.Store conn.old).is_open
@@ -120,7 +121,7 @@ fn complete_indexes<S: Alter>(conn: &mut Connection<S>) -> Result<(), OpenFault>
         → IfErr result (λ fault. fault ≡ Memory
         → IsAsBefore (state S.Store conn.old) (state S.Store conn.new)) }
     ensures crash { Survives (state S.Store conn.old) (state S.Store conn.new)
-        (MayBeMigrated Fifth (state S.Store conn.old)) }
+        (MayBeMigrated Sixth (state S.Store conn.old)) }
 {
     if !is_usable_schema(conn.schema()) {
         return Err(OpenFault::Store);
@@ -131,7 +132,7 @@ fn complete_indexes<S: Alter>(conn: &mut Connection<S>) -> Result<(), OpenFault>
     if is_entangled(conn.schema()) {
         return Err(OpenFault::Store);
     }
-    migrate_database(conn, OldSchema::Fifth)?;
+    migrate_database(conn, OldSchema::Sixth)?;
     Ok(())
 }
 
@@ -175,6 +176,10 @@ fn migrate_existing<S: Alter>(conn: &mut Connection<S>) -> Result<(), OpenFault>
             Ok(())
         }
         Some(5) => {
+            check_and_migrate(conn, OldSchema::Fifth)?;
+            Ok(())
+        }
+        Some(6) => {
             complete_indexes(conn)?;
             Ok(())
         }

@@ -5,7 +5,8 @@ ghost use Rattle.std.specs.Prelude.{◌≡◌, ◌<◌, Some, IfOk, All, map, le
 ghost use Rattle.std.specs.List.{filter_map};
 ghost use Rattle.portal_codes.specs.Code.{IsCode};
 ghost use Rattle.portal_model.specs.Batches.{vouchers_in, AreVouchersLike};
-ghost use Rattle.portal_model.specs.History.{plan_of, batch_of, voucher_of};
+ghost use Rattle.portal_model.specs.History.{History, plan_of, batch_of, voucher_of};
+ghost use Rattle.portal_model.specs.Verdict.{IsLegal};
 ghost use Rattle.portal_tables.specs.BatchLists.{
   AreFirstAfter,
   AreTerms,
@@ -20,7 +21,6 @@ use portal_model::name::Id;
 use portal_model::plan::Plan;
 use portal_model::proof::witness;
 use portal_model::record::{Batch, Voucher};
-use portal_tables_rows::finds::read_count_row;
 use portal_tables_rows::lists::list_batch_vouchers;
 use portal_tables_rows::pages::{list_batches_behind, list_vouchers_between};
 use portal_tables_rows::rows::{RowError, VoucherValue};
@@ -59,33 +59,24 @@ fn read_terms<S: Alter>(
     }
 }
 
-/// Makes a voucher from its row and its terms, with how often it was redeemed. Fails with `ForeignRow` if its
-/// count is missing.
-fn voucher_of_row<S: Alter>(
-    conn: &mut Connection<S>,
-    row: &VoucherValue,
-    terms: &Terms,
-) -> Result<Voucher, RowError>
+/// Makes a voucher from its row and its terms.
+fn voucher_of_row(row: &VoucherValue, terms: &Terms) -> Voucher
     requires { terms.now.id ≡ row.now.batch }
-    ensures code { IfOk result (λ _. IsCode row.now.code) }
-    ensures reads { ReadsHistory S.Store conn.old conn.new result
-        (λ h voucher. IsVoucherOf h row.now → AreTerms h (Some terms.now)
-        → Some voucher ≡ voucher_of h row.now.code) }
+    ensures code { IsCode row.now.code }
+    ensures voucher { (h : History) → IsLegal h → IsVoucherOf h row.now → AreTerms h (Some terms.now)
+        → Some result ≡ voucher_of h row.now.code }
 {
     // The contract of `text` gives that the value is a code.
     witness(row.code.text());
-    let Some(count) = read_count_row(conn, &row.code)? else {
-        return Err(RowError::ForeignRow);
-    };
-    Ok(Voucher {
+    Voucher {
         code: row.code,
         batch: row.batch,
         plan: terms.plan,
         expires: terms.batch.expires,
         sold: row.sold,
         refund: row.amount,
-        redeemed: count.redeemed,
-    })
+        redeemed: row.redeemed,
+    }
 }
 
 /// Makes the vouchers of rows, in this order. The batch and the plan of rows that follow one another are read
@@ -104,8 +95,7 @@ pub(crate) fn vouchers_of_rows<S: Alter>(
     let mut before: Option<Terms> = None;
     for row in rows {
         let terms = read_terms(conn, &row.batch, before)?;
-        let voucher = voucher_of_row(conn, row, &terms)?;
-        vouchers.push(voucher)?;
+        vouchers.push(voucher_of_row(row, &terms))?;
         before = Some(terms);
     }
     Ok(vouchers)

@@ -13,6 +13,7 @@ pub mod opening;
 mod prices;
 pub mod questions;
 mod records;
+mod redemptions;
 pub mod tables;
 
 pub use attaching::Refused;

@@ -6,7 +6,8 @@ ghost use Rattle.portal_ledger.specs.Ledger.{Ledger, history_of};
 ghost use Rattle.portal_model.specs.Batches.{AreVouchersLike, vouchers_in};
 ghost use Rattle.portal_model.specs.Captive.{all_sessions};
 ghost use Rattle.portal_model.specs.History.{head_of, plan_of, batch_of, issued_of, voucher_of, session_of};
-ghost use Rattle.portal_model.specs.History.{last_session_of, codes_of, is_open_at};
+ghost use Rattle.portal_model.specs.History.{last_session_of, codes_of, grants_of, is_open_at};
+ghost use Rattle.portal_model.specs.Redemptions.{first_redemptions, redemptions_among};
 ghost use Rattle.portal_tables_sql.specs.Looks.{Looks};
 ghost use Rattle.portal_tables_rows.specs.Holds.{HasTables};
 ghost use Rattle.portal_tables.specs.BatchLists.{AreFirstAfter};
@@ -16,6 +17,7 @@ ghost use Rattle.portal_tables.specs.PaymentLists.{AreOrderedSales, AreRefunds, 
 use crate::batches::{read_batches_after, read_vouchers_in, read_vouchers_like};
 use crate::lists::{read_open_sessions, read_sales_as_issued, read_sales_by_moment};
 use crate::records::{read_is_held, read_last_session, read_session, read_voucher};
+use crate::redemptions::read_last_redemptions;
 use portal_codes::Code;
 use portal_ledger::caller::Caller;
 use portal_ledger::request::{KeptRequest, RequestNumber};
@@ -24,6 +26,7 @@ use portal_model::moment::Moment;
 use portal_model::name::{Device, Id};
 use portal_model::plan::Plan;
 use portal_model::record::{Batch, Head, Session, Voucher};
+use portal_model::redemptions::Redemption;
 use portal_tables_rows::finds::{read_batch_row, read_head_row, read_plan_row};
 use portal_tables_rows::lists::{list_batch_codes, list_refunds};
 use portal_tables_rows::requests::read_request_row;
@@ -230,6 +233,26 @@ impl Question for VouchersLike<'_> {
 
     fn ask<S: Alter>(self, conn: &mut Connection<S>) -> Result<(Vec<Voucher>, bool), RowError> {
         read_vouchers_like(self.alloc, conn, self.start.printed())
+    }
+}
+
+/// The last redemptions with this code, the newest first, as they are at a time, and whether there are more.
+/// The list is empty if there is no such voucher.
+#[derive(Clone, Copy)]
+pub struct LastRedemptions<'a> {
+    pub alloc: Global,
+    pub code: &'a Code,
+    pub at: &'a Moment,
+}
+
+impl Question for LastRedemptions<'_> {
+    type Answer = (Vec<Redemption>, bool);
+
+    ghost is = { λ asked L found. (found.0.items, found.1) ≡ first_redemptions
+        (redemptions_among (history_of L) asked.at.now asked.code.now (grants_of (history_of L))) };
+
+    fn ask<S: Alter>(self, conn: &mut Connection<S>) -> Result<(Vec<Redemption>, bool), RowError> {
+        read_last_redemptions(self.alloc, conn, *self.at, self.code)
     }
 }
 

@@ -12,8 +12,7 @@ use portal_model::name::{Device, Id};
 use portal_model::plan::Plan;
 use portal_model::record::{Batch, Session, Voucher};
 use portal_tables_rows::finds::{
-    read_batch_row, read_count_row, read_last_session_row, read_plan_row, read_session_row,
-    read_total_row, read_voucher_row,
+    read_batch_row, read_last_session_row, read_plan_row, read_session_row, read_voucher_row,
 };
 use portal_tables_rows::rows::{RowError, SessionValue};
 use sqlite::{Alter, Connection};
@@ -45,9 +44,6 @@ pub(crate) fn read_voucher<S: Alter>(
     let Some(row) = read_voucher_row(conn, code)? else {
         return Ok(None);
     };
-    let Some(count) = read_count_row(conn, code)? else {
-        return Err(RowError::ForeignRow);
-    };
     let (batch, plan) = read_batch_and_plan(conn, &row.batch)?;
     Ok(Some(Voucher {
         code: *code,
@@ -56,7 +52,7 @@ pub(crate) fn read_voucher<S: Alter>(
         expires: batch.expires,
         sold: row.sold,
         refund: row.amount,
-        redeemed: count.redeemed,
+        redeemed: row.redeemed,
     }))
 }
 
@@ -96,7 +92,7 @@ fn allowance_of(remaining: Option<i64>, used: u64) -> Result<Option<u64>, RowErr
 pub(crate) const LIMIT: u64 = 1 << 63;
 
 /// Makes a session from its row, with its end, its allowance and whether its plan extends sessions.
-/// Fails with `ForeignRow` if the total or the plan is missing.
+/// Fails with `ForeignRow` if the plan is missing.
 fn session_of_row<S: Alter>(
     conn: &mut Connection<S>,
     row: &SessionValue,
@@ -105,23 +101,17 @@ fn session_of_row<S: Alter>(
     ensures { ReadsHistory S.Store conn.old conn.new result
         (λ h session. IsRowOf h row.now → Some session ≡ session_of h row.now.number) }
 {
-    if row.number >= LIMIT {
-        return Err(RowError::ForeignRow);
-    }
-    let Some(total) = read_total_row(conn, row.number)? else {
-        return Err(RowError::ForeignRow);
-    };
     let Some(plan) = read_plan_row(conn, &row.plan)? else {
         return Err(RowError::ForeignRow);
     };
-    let allowance = allowance_of(total.remaining, row.used)?;
+    let allowance = allowance_of(row.remaining, row.used)?;
     Ok(Session {
         number: row.number,
         device: row.device,
         plan: row.plan,
         extend: plan.extend,
         opened: row.opened,
-        ends: total.ends,
+        ends: row.ends,
         allowance,
         used: row.used,
         closed: row.closed,

@@ -1,7 +1,7 @@
 -- From tests row by row to counters that agree with the other rows.
 use Rattle.portal_tables_rows.proofs.Common.{◌≡◌, inl, inr, ℕ, ◌+◌, ◌<◌, Bool, true, false, cond, ◌&&◌, ◌||◌}
 use Rattle.portal_tables_rows.proofs.Common.{◌↔◌, IsTrue, List, [], ◌∷◌, map, take, length, get_or, Less}
-use Rattle.portal_tables_rows.proofs.Common.{refl, sym, ap, ap₂, subst, ◌∙◌, bytes_eq, true≢false, lit≤}
+use Rattle.portal_tables_rows.proofs.Common.{refl, sym, ap, ap₂, subst, ◌∙◌, bytes_eq, true≢false}
 use Rattle.portal_tables_rows.proofs.Common.{list_all, list_any, eqb-true, cases_Bool, Decides-eqb}
 use Rattle.portal_tables_rows.proofs.Common.{list_any-append, bytes_eq-Decides, Row, column, value_cmp}
 use Rattle.portal_tables_rows.proofs.Common.{Database, rowid, IsTable, value_cmp_total, Has, all_has}
@@ -12,7 +12,7 @@ use Rattle.portal_tables_rows.proofs.Common.{CountValue, Contents, HeadRow, head
 use Rattle.portal_tables_rows.proofs.Common.{total_stored, Holds, voucher_read, session_read, count_read}
 use Rattle.portal_tables_rows.proofs.Common.{HasCounters, IsAudited, Agrees, AreReadRows, is_counted}
 use Rattle.portal_tables_rows.proofs.Common.{has_count, total_in}
-use Rattle.portal_tables_rows.proofs.Common.{has_mapped, both}
+use Rattle.portal_tables_rows.proofs.Common.{has_mapped, both, WholeSession, whole_session_stored, total_of}
 use Rattle.portal_tables_rows.proofs.Cells.{exact_head, exact_session, exact_total}
 use Rattle.portal_tables_rows.proofs.Compose.{more_mapped}
 use Rattle.std.proofs.lemmas.Cmp.{tied_itself}
@@ -152,10 +152,19 @@ module _ (db : Database) (t : Contents) (held : Holds db t) (head : HeadRow) (ha
 
   same_totals : HasCounters t → t.totals ≡ map (total_in t) t.sessions
   same_totals a =
-      let by_number : IsTable (map session_stored t.sessions) = table_of session_stored
-      (db.trees (held.places our.Sessions).tree) t.sessions (held.store our.Sessions (always _)) in
-      let up : IsTable (map total_stored t.totals) = table_of total_stored
-      (db.trees (held.places our.Totals).tree) t.totals (held.store our.Totals (lit≤ tt)) in
+      let was = held.store our.Sessions (always _, tt) in
+      let whole : IsTable (map whole_session_stored was.whole) = table_of whole_session_stored
+      (db.trees (held.places our.Sessions).tree) was.whole was.stored in
+      let by_number : IsTable (map session_stored t.sessions) =
+      subst IsTable (sym (map-map session_stored (λ (w : WholeSession). w.row) was.whole)
+      ∙ ap (map session_stored) was.their_rows)
+      (table_like (λ (w : WholeSession). session_stored w.row) whole_session_stored (λ w. refl) was.whole
+      whole)
+      in
+      let up : IsTable (map total_stored t.totals) =
+      subst IsTable (sym (map-map total_stored total_of was.whole) ∙ ap (map total_stored) was.their_totals)
+      (table_like (λ (w : WholeSession). total_stored (total_of w)) whole_session_stored (λ w. refl) was.whole
+      whole) in
       let also : IsTable (map total_stored (map (total_in t) t.sessions)) =
       subst IsTable (sym (map-map total_stored (total_in t) t.sessions))
       (table_like (λ s. total_stored (total_in t s)) session_stored (λ s. refl) t.sessions by_number) in
@@ -183,7 +192,8 @@ module _ (db : Database) (t : Contents) (held : Holds db t) (head : HeadRow) (ha
   to_agree a =
       let one : a.head.0 ≡ head =
       head_exact a.head.0 head (one_of_number head_stored t.heads
-      (table_of head_stored (db.trees (held.places our.Head).tree) t.heads (held.store our.Head (always _)))
+      (table_of head_stored (db.trees (held.places our.Head).tree) t.heads
+      (held.store our.Head (always _, tt)))
       a.head.0 head a.head.1 has (ap number_cell (a.head.2 ∙ sym first))) in
       record {
         grants = subst (λ (h : HeadRow). h.grants ≡ length t.grants) one a.head.3;

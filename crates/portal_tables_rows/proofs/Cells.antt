@@ -8,6 +8,9 @@ use Rattle.portal_tables_rows.proofs.Common.{counts, totals, HeadRow, flag, batc
 use Rattle.portal_tables_rows.proofs.Common.{grant_cells, grant_stored, head_cells, head_stored, plan_cells}
 use Rattle.portal_tables_rows.proofs.Common.{session_cells, session_stored, total_cells, total_stored}
 use Rattle.portal_tables_rows.proofs.Common.{voucher_cells, request_cells, requests, RequestRow}
+use Rattle.portal_tables_rows.proofs.Common.{take, WholeVoucher, WholeSession, whole_voucher_cells}
+use Rattle.portal_tables_rows.proofs.Common.{whole_session_cells, whole_session_stored}
+use Rattle.portal_tables_sql.specs.Tables as old
 use Rattle.portal_model.specs.declared.record.Batch.{Batch}
 use Rattle.portal_model.proofs.SamePlan.{same-plan}
 
@@ -26,15 +29,35 @@ pub batches_in : (db : Trees) (tree : ℕ) (ps : List Batch) → Stores less_row
 batches_in db tree ps h = rows_shown less_rowid batch_cells batch_cells (λ n p. Int n ∷ batch_cells p)
     (opens_keyed batch_cells) (fields (batches tree)) (λ n p. refl) (db tree) ps h.are.keyed h.is
 
-pub vouchers_in : (db : Trees) (tree : ℕ) (ps : List VoucherRow)
-    → Stores less_rowid voucher_cells (db tree) ps → rows_in (vouchers tree) db ≡ map voucher_cells ps
-vouchers_in db tree ps h = rows_shown less_rowid voucher_cells voucher_cells (λ n p. Int n ∷ voucher_cells p)
-    (opens_keyed voucher_cells) (fields (vouchers tree)) (λ n p. refl) (db tree) ps h.are.keyed h.is
+pub vouchers_in : (db : Trees) (tree : ℕ) (ps : List WholeVoucher)
+    → Stores less_rowid whole_voucher_cells (db tree) ps
+    → rows_in (vouchers tree) db ≡ map whole_voucher_cells ps
+vouchers_in db tree ps h =
+    rows_shown less_rowid whole_voucher_cells whole_voucher_cells (λ n p. Int n ∷ whole_voucher_cells p)
+    (opens_keyed whole_voucher_cells) (fields (vouchers tree)) (λ n p. refl) (db tree) ps h.are.keyed h.is
 
-pub sessions_in : (db : Trees) (tree : ℕ) (ps : List SessionRow)
-    → Stores whole_row session_stored (db tree) ps → rows_in (sessions tree) db ≡ map session_cells ps
-sessions_in db tree ps h = rows_shown whole_row session_stored session_cells (λ n p. session_stored p)
-    (opens_numbered session_stored) (fields (sessions tree)) (λ n p. refl) (db tree) ps h.are.keyed h.is
+pub sessions_in : (db : Trees) (tree : ℕ) (ps : List WholeSession)
+    → Stores whole_row whole_session_stored (db tree) ps
+    → rows_in (sessions tree) db ≡ map whole_session_cells ps
+sessions_in db tree ps h =
+    rows_shown whole_row whole_session_stored whole_session_cells (λ n p. whole_session_stored p)
+    (opens_numbered whole_session_stored) (fields (sessions tree)) (λ n p. refl) (db tree) ps h.are.keyed h.is
+
+pub old_vouchers_in : (keyed : Bool) (db : Trees) (tree : ℕ) (ps : List VoucherRow)
+    → Stores less_rowid voucher_cells (db tree) ps
+    → rows_in (old.vouchers_in keyed tree) db ≡ map voucher_cells ps
+old_vouchers_in keyed db tree ps h =
+    rows_shown less_rowid voucher_cells voucher_cells (λ n p. Int n ∷ voucher_cells p)
+    (opens_keyed voucher_cells) (fields (old.vouchers_in keyed tree)) (λ n p. refl) (db tree) ps h.are.keyed
+    h.is
+
+pub old_sessions_in : (keyed : Bool) (db : Trees) (tree : ℕ) (ps : List SessionRow)
+    → Stores whole_row session_stored (db tree) ps
+    → rows_in (old.sessions_in keyed tree) db ≡ map session_cells ps
+old_sessions_in keyed db tree ps h =
+    rows_shown whole_row session_stored session_cells (λ n p. session_stored p)
+    (opens_numbered session_stored) (fields (old.sessions_in keyed tree)) (λ n p. refl) (db tree) ps
+    h.are.keyed h.is
 
 pub grants_in : (db : Trees) (tree : ℕ) (ps : List GrantRow) → Stores whole_row grant_stored (db tree) ps
     → rows_in (grants tree) db ≡ map grant_cells ps
@@ -139,6 +162,19 @@ exact_session a b e =
       used = used_is i;
       closed = closed_is i;
     }
+
+pub exact_whole_voucher : (a b : WholeVoucher) → whole_voucher_cells a ≡ whole_voucher_cells b → a ≡ b
+exact_whole_voucher a b e =
+    let row_is = exact_voucher a.row b.row (ap (take 6) e) in
+    let redeemed_is : a.redeemed ≡ b.redeemed = cc in
+    λ i. record { row = row_is i; redeemed = redeemed_is i }
+
+pub exact_whole_session : (a b : WholeSession) → whole_session_cells a ≡ whole_session_cells b → a ≡ b
+exact_whole_session a b e =
+    let row_is = exact_session a.row b.row (ap (take 6) e) in
+    let ends_is = exact_null a.ends b.ends (ap (λ r. column r 6) e) in
+    let remaining_is = exact_signed a.remaining b.remaining (ap (λ r. column r 7) e) in
+    λ i. record { row = row_is i; ends = ends_is i; remaining = remaining_is i }
 
 pub exact_grant : (a b : GrantRow) → grant_cells a ≡ grant_cells b → a ≡ b
 exact_grant a b e =

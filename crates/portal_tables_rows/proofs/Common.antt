@@ -40,30 +40,40 @@ pub use Rattle.portal_tables_rows.specs.Contents.{grant_cells, grant_stored, hea
 pub use Rattle.portal_tables_rows.specs.Contents.{plan_cells, request_cells, session_cells, session_stored}
 pub use Rattle.portal_tables_rows.specs.Contents.{signed_or_null, text_or_null, total_cells, total_stored}
 pub use Rattle.portal_tables_rows.specs.Contents.{voucher_cells}
+pub use Rattle.portal_tables_rows.specs.Contents.{WholeSession, WholeVoucher, count_of, total_of}
+pub use Rattle.portal_tables_rows.specs.Contents.{whole_session_cells, whole_session_stored}
+pub use Rattle.portal_tables_rows.specs.Contents.{whole_voucher_cells}
 pub use Rattle.portal_tables_rows.specs.Creation.{AreNamesFree, Builds, IsCreated, Makes, MayBuild}
 pub use Rattle.portal_tables_rows.specs.Creation.{are_names_free, new_store, no_rows}
-pub use Rattle.portal_tables_rows.specs.First.{HasFirst, HoldsFirst}
+pub use Rattle.portal_tables_rows.specs.First.{HasApart, HasBare, HasFirst, HoldsApart, HoldsBare}
+pub use Rattle.portal_tables_rows.specs.First.{HoldsFirst}
 pub use Rattle.portal_tables_rows.specs.Foreign.{AreOfOwn, AreOwn, BlamesForeign, IsOfOwn, IsOwnBatch}
 pub use Rattle.portal_tables_rows.specs.Foreign.{IsOwnCount, IsOwnGrant, IsOwnHead, IsOwnPlan, IsOwnRefund}
-pub use Rattle.portal_tables_rows.specs.Foreign.{IsOwnSession, IsOwnTotal, IsOwnVoucher, IsPrintedCode}
-pub use Rattle.portal_tables_rows.specs.Foreign.{IsPrintedDevice, NotForeign}
+pub use Rattle.portal_tables_rows.specs.Foreign.{IsOwnSession, IsOwnTotal, IsOwnVoucher, IsOwnWholeSession}
+pub use Rattle.portal_tables_rows.specs.Foreign.{IsOwnWholeVoucher, IsPrintedCode, IsPrintedDevice}
+pub use Rattle.portal_tables_rows.specs.Foreign.{NotForeign}
 pub use Rattle.portal_tables_rows.specs.Holds.{CrashStateHoldsRows, HasTables, HasTablesIn, Holds}
 pub use Rattle.portal_tables_rows.specs.Holds.{HoldsIn, HoldsTables, IsTableAt, StoresRows, TablePlace}
-pub use Rattle.portal_tables_rows.specs.Holds.{TablePlaces, has_clauses}
+pub use Rattle.portal_tables_rows.specs.Holds.{AreSessions, AreVouchers, TablePlaces, layout_of}
 pub use Rattle.portal_tables_rows.specs.Holds.{TablesExist, this_schema_version}
 pub use Rattle.portal_tables_rows.specs.Keyed.{has_keys}
-pub use Rattle.portal_tables_rows.specs.Lists.{IsOwnSale, Lists, ListsAs, by_number, by_place, by_refund}
+pub use Rattle.portal_tables_rows.specs.Lists.{IsOwnSale, Lists, ListsAs, by_place, by_refund}
 pub use Rattle.portal_tables_rows.specs.Lists.{by_sale, is_within, may_be_open, numbers_open, refund_columns}
 pub use Rattle.portal_tables_rows.specs.Lists.{refund_read, sale_cells, sale_columns, sale_read}
-pub use Rattle.portal_tables_rows.specs.Migrations.{CommitsFrom, CountersFit, HasMigrated, IsReadFree}
-pub use Rattle.portal_tables_rows.specs.Migrations.{MayCommitFrom, MayMigrate, Rebuilds, Rise, tables_of}
-pub use Rattle.portal_tables_rows.specs.Migrations.{after_migration, counts_read, counts_summed}
-pub use Rattle.portal_tables_rows.specs.Migrations.{migrated_rows, totals_read, totals_summed}
-pub use Rattle.portal_tables_rows.specs.Migrations.{version_number, with_counters, with_empty_tables}
-pub use Rattle.portal_tables_rows.specs.Migrations.{with_totals, without_counters, without_requests}
+pub use Rattle.portal_tables_rows.specs.Migrations.{AreCountedOf, AreInOrder, AreTotaledOf, CommitsFrom}
+pub use Rattle.portal_tables_rows.specs.Migrations.{HasMigrated, IsReadFree, MayCommitFrom, MayMigrate}
+pub use Rattle.portal_tables_rows.specs.Migrations.{Rebuilds, after_migration, copied_tables, counts_read}
+pub use Rattle.portal_tables_rows.specs.Migrations.{counts_summed, migrated_rows, tables_of, totals_read}
+pub use Rattle.portal_tables_rows.specs.Migrations.{totals_summed, version_number, with_copied}
+pub use Rattle.portal_tables_rows.specs.Migrations.{with_later_tables, with_whole, with_whole_sessions}
+pub use Rattle.portal_tables_rows.specs.Migrations.{with_whole_vouchers}
 pub use Rattle.portal_tables_rows.specs.Others.{CrashStateHasOthers, KeepsOthers, is_own}
-pub use Rattle.portal_tables_rows.specs.Read.{count_read, head_read, session_read, voucher_read}
+pub use Rattle.portal_tables_rows.specs.Read.{count_part, count_read, head_read, old_session_read}
+pub use Rattle.portal_tables_rows.specs.Read.{old_voucher_read, session_part, session_read, session_total}
+pub use Rattle.portal_tables_rows.specs.Read.{total_part, voucher_count, voucher_read, whole_session_read}
+pub use Rattle.portal_tables_rows.specs.Read.{whole_voucher_read}
 pub use Rattle.portal_tables_rows.specs.Requests.{key_of, request_read}
+pub use Rattle.portal_tables_sql.specs.Tables.{Apart, IsTableIn, Layout, Together}
 pub use Rattle.portal_tables_sql.specs.Tables.{batches, batches_name, counts, counts_name, create_batches}
 pub use Rattle.portal_tables_sql.specs.Tables.{create_counts, create_grants, create_head, create_plans}
 pub use Rattle.portal_tables_sql.specs.Tables.{create_requests, create_sessions, create_totals}
@@ -73,23 +83,27 @@ pub use Rattle.portal_tables_sql.specs.Tables.{totals, totals_name, vouchers, vo
 pub use Rattle.portal_tables_rows.specs.SchemaVersions.{GivesSchemaVersion, IsNoQuery, IsOneRow, QueryAnswers}
 pub use Rattle.portal_tables_rows.specs.SchemaVersions.{has_index_on, is_any_name_taken, is_indexed}
 pub use Rattle.portal_tables_rows.specs.SchemaVersions.{schema_version_text}
-pub use Rattle.portal_tables_rows.specs.Selects.{ReadsMany, ReadsRow}
+pub use Rattle.portal_tables_rows.specs.Selects.{ReadsMany, ReadsRow, ReadsTables}
 pub use Rattle.portal_tables_rows.specs.Steps.{CommitsRows, MakesRows, MayCommitRows, Writes, count_row}
 pub use Rattle.portal_tables_rows.specs.Steps.{ends_row, first_head, granted_row, new_voucher, opened_row}
 pub use Rattle.portal_tables_rows.specs.Steps.{with_batch, with_close, with_count, with_counts, with_ends}
 pub use Rattle.portal_tables_rows.specs.Steps.{with_grant, with_head, with_moment, with_numbers, with_plan}
 pub use Rattle.portal_tables_rows.specs.Steps.{with_plans, with_redeemed, with_refund, with_request}
 pub use Rattle.portal_tables_rows.specs.Steps.{with_sale, with_schema_version, with_session, with_total}
-pub use Rattle.portal_tables_rows.specs.Steps.{with_use, with_voucher, with_vouchers}
+pub use Rattle.portal_tables_rows.specs.Steps.{new_whole_voucher, opened_whole, with_use, with_voucher}
+pub use Rattle.portal_tables_rows.specs.Steps.{with_vouchers, with_whole_session, with_whole_voucher}
 pub use Rattle.portal_tables_rows.specs.Sums.{AreUses, IsKeptSum, given_to, grant_read, nothing_given}
 pub use Rattle.portal_tables_rows.specs.Sums.{rows_for_sums, uses_in}
 pub use Rattle.portal_tables_rows.specs.declared.column_values.Total.{Total}
 pub use Rattle.portal_tables_rows.specs.declared.grants.GrantValue.{GrantValue}
 pub use Rattle.portal_tables_rows.specs.declared.rows.CountValue.{CountValue}
+pub use Rattle.portal_tables_rows.specs.declared.rows.OldSession.{OldSession}
+pub use Rattle.portal_tables_rows.specs.declared.rows.OldVoucher.{OldVoucher}
+pub use Rattle.portal_tables_rows.specs.declared.rows.SessionValue.{SessionValue}
 pub use Rattle.portal_tables_rows.specs.declared.rows.RowError.{RowError}
 pub use Rattle.portal_tables_rows.specs.declared.rows.VoucherValue.{VoucherValue}
 pub use Rattle.portal_tables_rows.specs.declared.schema_versions.OldSchema.TheVariants.{First, Fourth, Second}
-pub use Rattle.portal_tables_rows.specs.declared.schema_versions.OldSchema.TheVariants.{Third}
+pub use Rattle.portal_tables_rows.specs.declared.schema_versions.OldSchema.TheVariants.{Fifth, Sixth, Third}
 pub use Rattle.portal_tables_rows.specs.declared.schema_versions.OldSchema.{OldSchema}
 pub use Rattle.portal_tables_rows.specs.declared.sums.Given.{Given}
 pub use Rattle.portal_tables_sql.proofs.AskLemmas.{means_simple, simple_asks}

@@ -1,13 +1,16 @@
 -- How the statements of a transaction compose.
 use Rattle.portal_tables_rows.proofs.Common.{take_more, map-append, ◌≡◌, true, false, IsTrue, ℕ, ◌+◌, ◌<◌}
-use Rattle.portal_tables_rows.proofs.Common.{map, take, get_or, List, [], ◌∷◌, ◌++◌, length, refl, sym, ap}
-use Rattle.portal_tables_rows.proofs.Common.{subst, subst₂, ◌∙◌, arith, add-zero, zero-add, add_assoc}
+use Rattle.portal_tables_rows.proofs.Common.{map, take, drop, get_or, List, [], ◌∷◌, ◌++◌, length, refl, sym}
+use Rattle.portal_tables_rows.proofs.Common.{ap}
+use Rattle.portal_tables_rows.proofs.Common.{subst, subst₂, ◌∙◌, arith, add-zero, zero-add, add_assoc, suc}
+use Rattle.portal_tables_rows.proofs.Common.{zero}
 use Rattle.portal_tables_rows.proofs.Common.{add-suc, one-add, append_assoc, append-nil, ap₂, Ghosts, Held}
 use Rattle.portal_tables_rows.proofs.Common.{state, State, HasCleanDisk, Shows, Survives, survives_begin}
 use Rattle.portal_tables_rows.proofs.Common.{Plan, new_vouchers, new_counts, Contents, CrashStateHoldsRows}
 use Rattle.portal_tables_rows.proofs.Common.{KeepsOthers, CrashStateHasOthers, MakesRows, CommitsRows}
 use Rattle.portal_tables_rows.proofs.Common.{MayCommitRows, new_voucher, count_row, with_plan, with_plans}
-use Rattle.portal_tables_rows.proofs.Common.{with_voucher, with_vouchers, with_count, with_counts}
+use Rattle.portal_tables_rows.proofs.Common.{with_vouchers, with_counts, with_whole_voucher}
+use Rattle.portal_tables_rows.proofs.Common.{new_whole_voucher}
 use Rattle.sqlite.proofs.StateLemmas.{survives_then}
 use Rattle.portal_tables_rows.proofs.OthersLemmas.{others_none, others_then}
 
@@ -93,6 +96,16 @@ pub made_more : {X Y Z : Type 0} (f : X → Z) (h : Y → Z) (made new : List X)
 made_more f h made new x ys i y so_far grown within is one = ap (map f) grown ∙ map-append f made (x ∷ [])
     ∙ ap₂ ◌++◌ so_far (ap (λ z. z ∷ []) one) ∙ sym (more_mapped h ys i y within is)
 
+-- two elements at the same place of lists with the same values
+pub same_at : {X Y Z : Type 0} (f : X → Z) (h : Y → Z) (xs : List X) (ys : List Y) (i : ℕ) (x : X) (y : Y)
+    → i < length xs → i < length ys → x ≡ get_or xs i x → y ≡ get_or ys i y → map f xs ≡ map h ys → f x ≡ h y
+same_at f h [] ys i x y less also is too same = absurd (omega arith)
+same_at f h (a ∷ xs) [] i x y less also is too same = absurd (omega arith)
+same_at f h (a ∷ xs) (b ∷ ys) zero x y less also is too same =
+    ap f is ∙ ap (λ l. get_or l 0 (f x)) same ∙ sym (ap h too)
+same_at f h (a ∷ xs) (b ∷ ys) (suc i) x y less also is too same =
+    same_at f h xs ys i x y (omega arith) (omega arith) is too (ap (λ l. drop 1 l) same)
+
 pub plans_none : (a : State) → IsTrue a.in_transaction → MakesRows (with_plans []) a a
 plans_none a inside = steps_same (λ t. t) (with_plans []) a a
     (λ t. ap (λ ps. record t { plans = ps }) (sym (append-nil t.plans))) (steps_none a inside)
@@ -112,33 +125,29 @@ new_vouchers-push batch place [] code = rw add-zero refl
 new_vouchers-push batch place (c ∷ codes) code =
     rw (new_vouchers-push batch (place + 1) codes code, add_assoc, add-suc, one-add) refl
 
+-- the vouchers of a batch, each with a count of 0
+abbrev pub with_issued : List ℕ → List (List ℕ) → Contents → Contents
+with_issued batch codes t = with_counts (new_counts codes) (with_vouchers (new_vouchers batch 0 codes) t)
+
 -- one voucher more
-pub vouchers_then : (batch : List ℕ) (codes : List (List ℕ)) (code : List ℕ) (place : ℕ) (a b c : State)
-    → place ≡ length codes → MakesRows (with_vouchers (new_vouchers batch 0 codes)) a b
-    → MakesRows (with_voucher (new_voucher batch place code)) b c
-    → MakesRows (with_vouchers (new_vouchers batch 0 (codes ++ code ∷ []))) a c
-vouchers_then batch codes code place a b c at p q =
-    steps_same _ (with_vouchers (new_vouchers batch 0 (codes ++ code ∷ []))) a c
-    (λ t. rw (new_vouchers-push batch 0 codes code, zero-add, at) (ap (λ vs. record t { vouchers = vs })
-    (append_assoc t.vouchers (new_vouchers batch 0 codes) (new_voucher batch (length codes) code ∷ []))))
-    (steps_then (with_vouchers (new_vouchers batch 0 codes))
-    (with_voucher (new_voucher batch place code)) a b c p q)
+pub issued_then : (batch : List ℕ) (codes : List (List ℕ)) (code : List ℕ) (place : ℕ) (a b c : State)
+    → place ≡ length codes → MakesRows (with_issued batch codes) a b
+    → MakesRows (with_whole_voucher (new_whole_voucher batch place code)) b c
+    → MakesRows (with_issued batch (codes ++ code ∷ [])) a c
+issued_then batch codes code place a b c at p q =
+    steps_same _ (with_issued batch (codes ++ code ∷ [])) a c
+    (λ t. rw (
+      new_vouchers-push batch 0 codes code,
+      zero-add,
+      at,
+      map-append (λ code. count_row code 0) codes (code ∷ []),
+    ) (ap₂ (λ vs ks. record t { vouchers = vs; counts = ks })
+    (append_assoc t.vouchers (new_vouchers batch 0 codes) (new_voucher batch (length codes) code ∷ []))
+    (append_assoc t.counts (new_counts codes) (count_row code 0 ∷ []))))
+    (steps_then (with_issued batch codes) (with_whole_voucher (new_whole_voucher batch place code)) a b c p q)
 
-pub vouchers_none : (batch : List ℕ) (a : State) → IsTrue a.in_transaction
-    → MakesRows (with_vouchers (new_vouchers batch 0 [])) a a
-vouchers_none batch a inside = steps_same (λ t. t) (with_vouchers []) a a
-    (λ t. ap (λ vs. record t { vouchers = vs }) (sym (append-nil t.vouchers))) (steps_none a inside)
-
-pub counts_none : (a : State) → IsTrue a.in_transaction → MakesRows (with_counts (new_counts [])) a a
-counts_none a inside = steps_same (λ t. t) (with_counts []) a a
-    (λ t. ap (λ ks. record t { counts = ks }) (sym (append-nil t.counts))) (steps_none a inside)
-
--- one count more
-pub counts_then : (codes : List (List ℕ)) (code : List ℕ) (a b c : State)
-    → MakesRows (with_counts (new_counts codes)) a b → MakesRows (with_count (count_row code 0)) b c
-    → MakesRows (with_counts (new_counts (codes ++ code ∷ []))) a c
-counts_then codes code a b c p q =
-    steps_same _ (with_counts (new_counts (codes ++ code ∷ []))) a c
-    (λ t. rw (map-append (λ code. count_row code 0) codes (code ∷ []))
-    (ap (λ ks. record t { counts = ks }) (append_assoc t.counts (new_counts codes) (count_row code 0 ∷ []))))
-    (steps_then (with_counts (new_counts codes)) (with_count (count_row code 0)) a b c p q)
+pub issued_none : (batch : List ℕ) (a : State) → IsTrue a.in_transaction
+    → MakesRows (with_issued batch []) a a
+issued_none batch a inside = steps_same (λ t. t) (with_issued batch []) a a
+    (λ t. ap₂ (λ vs ks. record t { vouchers = vs; counts = ks }) (sym (append-nil t.vouchers))
+    (sym (append-nil t.counts))) (steps_none a inside)

@@ -1,26 +1,24 @@
 -- Rows that are inserted one after another, as they were read.
 use Rattle.portal_tables_rows.proofs.Common.{Err, IfOk, zero, suc, ◌<◌, length, get_or, arith}
-use Rattle.portal_tables_rows.proofs.Common.{◌≡◌, Result, Ok, ℕ, ℤ, List, [], ◌∷◌}
+use Rattle.portal_tables_rows.proofs.Common.{◌≡◌, Result, Ok, ℕ, List, [], ◌∷◌}
 use Rattle.portal_tables_rows.proofs.Common.{◌++◌, map, Option, Some}
 use Rattle.portal_tables_rows.proofs.Common.{None, refl, sym, ap, subst, ◌∙◌, Error}
 use Rattle.portal_tables_rows.proofs.Common.{Ghosts, Row, State}
 use Rattle.portal_tables_rows.proofs.Common.{or_null, Contents, Holds}
 use Rattle.portal_tables_rows.proofs.Common.{head_cells}
 use Rattle.portal_tables_rows.proofs.Common.{plan_cells, batch_cells}
-use Rattle.portal_tables_rows.proofs.Common.{voucher_cells, session_cells, grant_cells, count_cells}
-use Rattle.portal_tables_rows.proofs.Common.{total_cells, request_cells, signed_or_null, ExecutesInside}
+use Rattle.portal_tables_rows.proofs.Common.{grant_cells, request_cells, ExecutesInside}
 use Rattle.sqlite.specs.Values.{bound_value}
 use Rattle.sqlite.specs.State.{Executes}
 use Rattle.sqlite.specs.declared.transaction.Transaction.{Transaction}
 use Rattle.portal_tables_sql.specs.Copies.{insert_of}
 use Rattle.portal_tables_sql.specs.Inside.{Inside, Runs}
-use Rattle.portal_tables_sql.specs.declared.our_tables.OurTable.{OurTable}
-use Rattle.portal_tables_sql.specs.declared.our_tables.OurTable.TheVariants as our
+use Rattle.portal_tables_sql.specs.declared.copied_tables.CopiedTable.{CopiedTable}
+use Rattle.portal_tables_sql.specs.declared.copied_tables.CopiedTable.TheVariants as copied
 use Rattle.portal_tables_sql.proofs.InsideLemmas.{inside_by, inside_none, inside_then}
 use Rattle.portal_tables_rows.specs.Contents.{text_or_null}
 use Rattle.portal_tables_rows.specs.Copying.{Adds, AddsRow, Chain}
-use Rattle.portal_tables_rows.proofs.InsertSteps.{add_batch, add_count, add_grant, add_plan, add_total}
-use Rattle.portal_tables_rows.proofs.InsertSteps.{add_whole_head, add_whole_session, add_whole_voucher}
+use Rattle.portal_tables_rows.proofs.InsertSteps.{add_batch, add_grant, add_plan, add_whole_head}
 use Rattle.portal_tables_rows.proofs.OthersLemmas.{others_none, others_then}
 use Rattle.portal_tables_rows.proofs.RequestSteps.{add_request}
 use Rattle.portal_tables_rows.proofs.TableSteps.{LeadsTo}
@@ -30,10 +28,6 @@ use Rattle.portal_tables_rows.proofs.TableSteps.{LeadsTo}
 bound_or_null : (o : Option ℕ) → bound_value (or_null o) ≡ or_null o
 bound_or_null None = refl
 bound_or_null (Some n) = refl
-
-bound_signed_or_null : (o : Option ℤ) → bound_value (signed_or_null o) ≡ signed_or_null o
-bound_signed_or_null None = refl
-bound_signed_or_null (Some n) = refl
 
 bound_text_or_null : (o : Option (List ℕ)) → bound_value (text_or_null o) ≡ text_or_null o
 bound_text_or_null None = refl
@@ -56,24 +50,17 @@ adds_of {P = P} sql cells step bound leads row a b count ran =
       mode = ran.1.mode;
     }
 
-adds_row : (x : OurTable) (row : Row) (a b : State) (count : ℕ)
+adds_row : (x : CopiedTable) (row : Row) (a b : State) (count : ℕ)
     → ExecutesInside 0 (insert_of x) (map bound_value row) a b (Ok count) → Adds (AddsRow x row) a b
-adds_row our.Head = adds_of (insert_of our.Head) head_cells _ (λ p. refl) add_whole_head
-adds_row our.Plans = adds_of (insert_of our.Plans) plan_cells _ (λ p. refl) add_plan
-adds_row our.Batches = adds_of (insert_of our.Batches) batch_cells _ (λ p. refl) add_batch
-adds_row our.Vouchers = adds_of (insert_of our.Vouchers) voucher_cells _
-    (λ p. rw (bound_or_null p.sold, bound_or_null p.refunded, bound_or_null p.amount) refl) add_whole_voucher
-adds_row our.Sessions =
-    adds_of (insert_of our.Sessions) session_cells _ (λ p. rw (bound_or_null p.closed) refl) add_whole_session
-adds_row our.Grants = adds_of (insert_of our.Grants) grant_cells _ (λ p. refl) add_grant
-adds_row our.Counts = adds_of (insert_of our.Counts) count_cells _ (λ p. refl) add_count
-adds_row our.Totals = adds_of (insert_of our.Totals) total_cells _
-    (λ p. rw (bound_or_null p.ends, bound_signed_or_null p.remaining) refl) add_total
-adds_row our.Requests = adds_of (insert_of our.Requests) request_cells _
+adds_row copied.Head = adds_of (insert_of copied.Head) head_cells _ (λ p. refl) add_whole_head
+adds_row copied.Plans = adds_of (insert_of copied.Plans) plan_cells _ (λ p. refl) add_plan
+adds_row copied.Batches = adds_of (insert_of copied.Batches) batch_cells _ (λ p. refl) add_batch
+adds_row copied.Grants = adds_of (insert_of copied.Grants) grant_cells _ (λ p. refl) add_grant
+adds_row copied.Requests = adds_of (insert_of copied.Requests) request_cells _
     (λ p. rw (bound_text_or_null p.answer.word, bound_or_null p.answer.n2, bound_or_null p.answer.n3) refl)
     add_request
 
-pub row_added : {S : Type 0} (g : Ghosts S) (x : OurTable) (row params : Row) {sql : List ℕ}
+pub row_added : {S : Type 0} (g : Ghosts S) (x : CopiedTable) (row params : Row) {sql : List ℕ}
     {a b : Transaction S} {result : Result (Unit {0}) Error} → sql ≡ insert_of x → params ≡
     map bound_value row
     → Inside g (Runs sql params) a b result → Inside g (Adds (AddsRow x row)) a b result

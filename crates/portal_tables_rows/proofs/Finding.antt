@@ -19,6 +19,12 @@ pub record Tells {T : Type 0} (cells : T → Row) (width : ℕ) (own : Row → T
   pub none : slice_get rows 0 ≡ None → Is None
   pub owns : Own → (row : Row) → slice_get rows 0 ≡ Some row → own (columns width row)
 
+-- the same where more is known of the rows
+pub tells_of : {T : Type 0} {cells : T → Row} {width : ℕ} {own : Row → Type 0} {rows : List Row}
+    {Is : Option T → Type 0} {Own Whole : Type 0} → (Whole → Own) → Tells cells width own rows Is Own
+    → Tells cells width own rows Is Whole
+tells_of owns t = record { some = t.some; none = t.none; owns = λ whole. t.owns (owns whole) }
+
 -- the row that was found, by what it tells
 told : {T : Type 0} {cells : T → Row} {width : ℕ} {own : Row → Type 0} {rows : List Row}
     {Is : Option T → Type 0} {Own : Type 0} → Tells cells width own rows Is Own → (found : Option T)

@@ -1,216 +1,198 @@
 -- How a migration goes from the rows that were read to the tables after it.
-use Rattle.portal_tables_rows.proofs.Common.{◌≡◌, IsTrue, ℕ, suc, zero, ◌+◌, ◌<◌, get_or, map, List}
-use Rattle.portal_tables_rows.proofs.Common.{[], ◌∷◌, refl, sym, ap, subst, ◌∙◌, arith, Less, All, ◌^◌}
-use Rattle.portal_tables_rows.proofs.Common.{nat_tests, ints, IsStrictlyIncreasing, value_cmp, Database}
-use Rattle.portal_tables_rows.proofs.Common.{State, HasCleanDisk, Survives, survives_then, survives_weaker}
-use Rattle.portal_tables_rows.proofs.Common.{IsUndone, reads_then, same_now, still_open, value_cmp-Int}
-use Rattle.portal_tables_rows.proofs.Common.{number, SessionRow, TotalRow, count_from, total_from, CountRow}
-use Rattle.portal_tables_rows.proofs.Common.{Total, Contents, session_stored, Anything, Holds}
-use Rattle.portal_tables_rows.proofs.Common.{CrashStateHoldsRows, this_schema_version, KeepsOthers}
-use Rattle.portal_tables_rows.proofs.Common.{CrashStateHasOthers, with_schema_version, ends_row, CountValue}
-use Rattle.portal_tables_rows.proofs.Common.{voucher_read, session_read, count_read, OldSchema, First, Rise}
-use Rattle.portal_tables_rows.proofs.Common.{CommitsFrom, MayCommitFrom, HasMigrated, MayMigrate}
+use Rattle.portal_tables_rows.proofs.Common.{◌≡◌, IsTrue, map, List, [], ap, sym, subst, ◌∙◌, arith}
+use Rattle.portal_tables_rows.proofs.Common.{Database, State, HasCleanDisk, Survives, survives_then}
+use Rattle.portal_tables_rows.proofs.Common.{survives_weaker, IsUndone, same_now, still_open, count_from}
+use Rattle.portal_tables_rows.proofs.Common.{total_from, Total, Contents, Anything, Holds, HoldsIn}
+use Rattle.portal_tables_rows.proofs.Common.{CrashStateHoldsRows, KeepsOthers, CrashStateHasOthers}
+use Rattle.portal_tables_rows.proofs.Common.{CountValue}
+use Rattle.portal_tables_rows.proofs.Common.{OldVoucher, OldSession, VoucherValue, SessionValue}
+use Rattle.portal_tables_rows.proofs.Common.{old_voucher_read, old_session_read, OldSchema, CommitsFrom}
+use Rattle.portal_tables_rows.proofs.Common.{MayCommitFrom, HasMigrated, MayMigrate, AreCountedOf}
+use Rattle.portal_tables_rows.proofs.Common.{AreTotaledOf}
 use Rattle.portal_tables_rows.proofs.Common.{after_migration, migrated_rows, counts_read, totals_read}
-use Rattle.portal_tables_rows.proofs.Common.{counts_summed, totals_summed, version_number, CountersFit}
-use Rattle.portal_tables_rows.proofs.Common.{get_or-map, length-map, HoldsIn, true}
-use Rattle.sqlite.specs.Tree.{IsTable}
+use Rattle.portal_tables_rows.proofs.Common.{counts_summed}
+use Rattle.portal_tables_rows.proofs.Common.{totals_summed, version_number, AreNamesFree, IsReadFree, Trees}
+use Rattle.portal_tables_rows.proofs.Common.{copied_tables}
 use Rattle.portal_tables_sql.specs.Looks.{ReadsOnly, Fails}
 use Rattle.portal_model.specs.declared.plan.Plan.{Plan}
 use Rattle.portal_tables_rows.specs.Sums.{rows_for_sums, grant_read}
-use Rattle.portal_tables_rows.specs.First.{HoldsFirst}
-use Rattle.portal_tables_rows.specs.declared.rows.VoucherValue.{VoucherValue}
-use Rattle.portal_tables_rows.specs.declared.rows.SessionValue.{SessionValue}
-use Rattle.portal_tables_rows.specs.declared.grants.GrantValue.{GrantValue}
-use Rattle.portal_tables_rows.proofs.MigrateLemmas.{brought_first}
-use Rattle.portal_tables_rows.proofs.Common.{AreNamesFree, IsReadFree, Trees, tables_of}
 use Rattle.portal_tables_rows.specs.Copying.{AreRead}
 use Rattle.portal_tables_rows.specs.declared.copies.WholeTable.{WholeTable}
-use Rattle.portal_tables_sql.specs.declared.our_tables.OurTable.TheVariants as our
-use Rattle.portal_tables_sql.proofs.TableLemmas.{always}
-
--- ---- numbers that rise, since they are rowids
-
-abbrev session_number : SessionRow → ℕ
-session_number s = s.number
-
-higher : (a b : ℕ) → value_cmp (number a) (number b) ≡ Less → a < b
-higher a b h = let k = rw (value_cmp-Int _ _) at h in grind (arith, ints, nat_tests)
-
-risen : (ss : List SessionRow) → IsTable (map session_stored ss)
-    → IsStrictlyIncreasing (map session_number ss)
-risen [] table = λ k within. absurd (omega arith)
-risen (s ∷ []) table = λ k within. absurd (omega arith)
-risen (s ∷ r ∷ ss) table = go (risen (r ∷ ss) table.1)
-  where
-    go : IsStrictlyIncreasing (map session_number (r ∷ ss))
-        → IsStrictlyIncreasing (map session_number (s ∷ r ∷ ss))
-    go rest zero within = higher s.number r.number table.0.0
-    go rest (suc k) within =
-        let e : suc (k + 1) ≡ suc k + 1 = omega arith in
-        subst (λ n. get_or (map session_number (r ∷ ss)) k 0 < get_or (map session_number (s ∷ r ∷ ss)) n 0)
-        e (rest k (omega arith))
-
-map_whole : {X : Type 0} (xs : List X) → map (λ x. x) xs ≡ xs
-map_whole [] = refl
-map_whole (x ∷ xs) = ap (λ l. x ∷ l) (map_whole xs)
-
-numbers_summed : (t : Contents) (ss : List SessionRow) → map (λ (m : TotalRow). m.number)
-    (map (total_from (rows_for_sums t.plans t.grants)) ss) ≡ map session_number ss
-numbers_summed t [] = refl
-numbers_summed t (s ∷ ss) = ap (λ l. s.number ∷ l) (numbers_summed t ss)
-
-numbers_read : (totals : List Total)
-    → map (λ (m : TotalRow). m.number) (totals_read totals) ≡ map (λ (m : Total). m.number) totals
-numbers_read [] = refl
-numbers_read (m ∷ ms) = ap (λ l. m.number ∷ l) (numbers_read ms)
-
-pub summed_rise : (db : Database) (t : Contents) (totals : List Total) → HoldsFirst db t
-    → totals_read totals ≡ totals_summed t → Rise totals
-summed_rise db t totals first is =
-    let stored = (first.1.store our.Sessions (always _)) in
-    let table = subst IsTable (sym (map_whole _) ∙ stored.is) stored.are.rise in
-    let numbers = sym (numbers_summed t t.sessions) ∙ ap (map (λ (m : TotalRow). m.number)) (sym is)
-    ∙ numbers_read totals in
-    subst IsStrictlyIncreasing numbers (risen t.sessions table)
+use Rattle.portal_tables_rows.specs.declared.grants.GrantValue.{GrantValue}
+use Rattle.portal_tables_rows.proofs.MigrateLemmas.{brought}
+use Rattle.portal_tables_rows.proofs.RestoreLemmas.{held_rise}
+use Rattle.portal_tables_rows.proofs.WholeReading.{earlier_held}
+use Rattle.portal_tables_rows.proofs.Common.{lit≤, map-map, Apart, HoldsApart, HoldsFirst, true, false}
+use Rattle.portal_tables_rows.proofs.Common.{Result, Ok, Err, IfOk, Vec, Global}
+use Rattle.portal_tables_rows.proofs.Common.{RowError, VoucherRow, SessionRow, CountRow, TotalRow, GrantRow}
+use Rattle.portal_tables_rows.proofs.Common.{voucher_read, voucher_count, session_read, session_total}
+use Rattle.portal_tables_rows.proofs.Common.{AreInOrder}
+use Rattle.portal_tables_rows.proofs.Common.{count_read, ends_row}
+use Rattle.portal_model.specs.Rows.{Rows}
 
 -- ---- sums over what was read
 
-pub counts_are : (t : Contents) (gs : List GrantValue) (vs items : List VoucherValue) (ks : List CountValue)
-    → counts_read ks ≡ map (count_from (map grant_read gs)) (map voucher_read vs) → vs ≡ items
-    → map voucher_read items ≡ t.vouchers → map grant_read gs ≡ t.grants → counts_read ks ≡ counts_summed t
-counts_are t gs vs items ks is same vouchers grants =
-    is ∙ ap (λ l. map (count_from (map grant_read gs)) (map voucher_read l)) same
-    ∙ ap (map (count_from (map grant_read gs))) vouchers ∙ ap (λ l. map (count_from l) t.vouchers) grants
+pub counts_are : (t : Contents) (gs : List GrantValue) (vs : List OldVoucher) (ks : List CountValue)
+    → counts_read ks ≡ map (count_from (map grant_read gs)) (map old_voucher_read vs)
+    → map old_voucher_read vs ≡ t.vouchers → map grant_read gs ≡ t.grants → counts_read ks ≡ counts_summed t
+counts_are t gs vs ks is vouchers grants =
+    is ∙ ap (map (count_from (map grant_read gs))) vouchers ∙ ap (λ l. map (count_from l) t.vouchers) grants
 
-pub totals_are : (t : Contents) (gs : List GrantValue) (ps plans : List Plan)
-    (ss items : List SessionValue) (ms : List Total)
-    → totals_read ms ≡ map (total_from (rows_for_sums ps (map grant_read gs))) (map session_read ss)
-    → ps ≡ plans → ss ≡ items → plans ≡ t.plans → map session_read items ≡ t.sessions
-    → map grant_read gs ≡ t.grants
+pub totals_are : (t : Contents) (gs : List GrantValue) (ps : List Plan) (ss : List OldSession)
+    (ms : List Total)
+    → totals_read ms ≡ map (total_from (rows_for_sums ps (map grant_read gs))) (map old_session_read ss)
+    → ps ≡ t.plans → map old_session_read ss ≡ t.sessions → map grant_read gs ≡ t.grants
     → totals_read ms ≡ totals_summed t
-totals_are t gs ps plans ss items ms is same_plans same_sessions read_plans read_sessions grants =
-    is ∙ ap (λ l. map (total_from (rows_for_sums l (map grant_read gs))) (map session_read ss))
-    (same_plans ∙ read_plans)
-    ∙ ap (λ l. map (total_from (rows_for_sums t.plans (map grant_read gs))) (map session_read l))
-    same_sessions
-    ∙ ap (map (total_from (rows_for_sums t.plans (map grant_read gs)))) read_sessions
+totals_are t gs ps ss ms is plans sessions grants =
+    is ∙ ap (λ l. map (total_from (rows_for_sums l (map grant_read gs))) (map old_session_read ss)) plans
+    ∙ ap (map (total_from (rows_for_sums t.plans (map grant_read gs)))) sessions
     ∙ ap (λ l. map (total_from (rows_for_sums t.plans l)) t.sessions) grants
 
--- ---- the state after a read
+-- ---- the tables of other versions
 
-module _ (a b : State) (read : ReadsOnly Anything a b) (clean : HasCleanDisk b) (live : IsTrue a.is_open)
-    (t : Contents) (first : HoldsFirst a.now t) where
-  pub first_after : HoldsFirst b.now t
-  first_after = subst (λ db. HoldsFirst db t) (sym (same_now Anything a b read clean live tt)) first
+pub apart_itself : (db : Database) (t : Contents) → HoldsApart 2 db t → HoldsApart 2 db t
+apart_itself db t held = held
 
-  pub open_after : IsTrue b.is_open
-  open_after = still_open Anything a b read clean live tt
+pub first_apart : (db : Database) (t : Contents) → HoldsApart 2 db t → HoldsApart 1 db t
+first_apart db t held = (held.0, earlier_held (Apart held.0) 2 1 [] db t (lit≤ tt) held.1)
 
-all_back : {X Y : Type 0} (P : Y → Type 0) (f : X → Y) (xs : List X)
-    → All P (map f xs) → All (λ x. P (f x)) xs
-all_back P f xs h k d within = rw (get_or-map f xs k d (f d) within) at (h k (f d) (rw (length-map) within))
+pub first_of_apart : (db : Database) (t : Contents) → HoldsApart 1 db t → HoldsFirst db t
+first_of_apart db t held = (Apart held.0, held.1)
 
--- the tables of schema version 1, whatever clauses they have
-pub of_first : (db : Database) (t : Contents) → HoldsIn 1 [] db t → HoldsFirst db t
-of_first db t was = (true, was)
+pub apart_first : (db : Database) (t : Contents) → HoldsIn 1 [] db t → HoldsApart 1 db t
+apart_first db t held = (true, held)
 
--- what is known of the counters when they are written
-record Knows (db : Database) (ks : List CountValue) (ms : List Total) (t : Contents) : Type 0 where
-  first : HoldsFirst db t
-  counts : counts_read ks ≡ counts_summed t
-  totals : totals_read ms ≡ totals_summed t
+pub apart_second : (db : Database) (t : Contents) → HoldsIn 2 [] db t → HoldsApart 2 db t
+apart_second db t held = (true, held)
 
-upgraded_is : (counts : List CountValue) (totals : List Total) (t : Contents) → Rise totals
-    → counts_read counts ≡ counts_summed t → totals_read totals ≡ totals_summed t
-    → after_migration First counts totals t ≡ migrated_rows First t
-upgraded_is counts totals t rise ks ms =
-    brought_first counts totals rise t ∙ ap (λ l. with_schema_version this_schema_version
-    (record t { counts = l; totals = totals_read totals; requests = [] })) ks
-    ∙ ap (λ l. with_schema_version this_schema_version
-    (record t { counts = counts_summed t; totals = l; requests = [] })) ms
+pub apart_third : (db : Database) (t : Contents) → HoldsIn 3 [] db t → HoldsApart 2 db t
+apart_third db t held = (true, earlier_held (Apart true) 3 2 [] db t (lit≤ tt) held)
 
-module _ (a b c d e : State) (one : ReadsOnly Anything a b) (two : ReadsOnly Anything b c)
-    (three : ReadsOnly Anything c d) (gs gs1 gs2 : List GrantValue) (same1 : gs1 ≡ gs) (same2 : gs2 ≡ gs)
-    (ks ks1 : List CountValue) (same3 : ks1 ≡ ks) (ms ms1 : List Total) (same4 : ms1 ≡ ms)
-    (grants : HasCleanDisk b → (t : Contents) → HoldsFirst a.now t → map grant_read gs ≡ t.grants)
-    (counts : HasCleanDisk c → (t : Contents) → HoldsFirst b.now t → map grant_read gs1 ≡ t.grants
-    → counts_read ks ≡ counts_summed t)
-    (totals : HasCleanDisk d → IsTrue c.is_open → (t : Contents) → HoldsFirst c.now t
-    → map grant_read gs2 ≡ t.grants → totals_read ms ≡ totals_summed t) where
-  knows : HasCleanDisk d → IsTrue a.is_open → (t : Contents) → HoldsFirst a.now t → Knows d.now ks1 ms1 t
-  knows clean live t first =
-      let clean2 : HasCleanDisk c = omega (arith, clean, three.crash.clean) in
-      let clean1 : HasCleanDisk b = omega (arith, clean2, two.crash.clean) in
-      let first1 = first_after a b one clean1 live t first in
-      let live1 = open_after a b one clean1 live t first in
-      let first2 = first_after b c two clean2 live1 t first1 in
-      let live2 = open_after b c two clean2 live1 t first1 in
-      let read = grants clean1 t first in
-      record {
-        first = first_after c d three clean live2 t first2;
-        counts = ap counts_read same3 ∙ counts clean2 t first1 (ap (map grant_read) same1 ∙ read);
-        totals = ap totals_read same4 ∙ totals clean live2 t first2 (ap (map grant_read) same2 ∙ read);
-      }
+pub apart_fourth : (db : Database) (t : Contents) → HoldsIn 4 [] db t → HoldsApart 2 db t
+apart_fourth db t held = (true, earlier_held (Apart true) 4 2 [] db t (lit≤ tt) held)
 
-  -- if the computed counters fit, so do those that are written
-  pub upgrade_fits : HasCleanDisk d → IsTrue a.is_open → (t : Contents) → HoldsFirst a.now t → CountersFit t
-      → All (λ (k : CountValue). k.redeemed < 2 ^ 63) ks1 × All (λ (m : Total). m.number < 2 ^ 63) ms1
-  upgrade_fits clean live t first fits =
-      let k = knows clean live t first in
-      let counted = subst (All (λ (x : CountRow). x.redeemed < 2 ^ 63)) (sym k.counts) fits.counts in
-      let ended = subst (All (λ (x : TotalRow). x.number < 2 ^ 63)) (sym k.totals) fits.totals in (
-        all_back (λ (x : CountRow). x.redeemed < 2 ^ 63) count_read ks1 counted,
-        all_back (λ (x : TotalRow). x.number < 2 ^ 63) ends_row ms1 ended,
-      )
+pub apart_fifth : (db : Database) (t : Contents) → HoldsIn 5 [] db t → HoldsApart 2 db t
+apart_fifth db t held = (false, earlier_held (Apart false) 5 2 [] db t (lit≤ tt) held)
 
-  read_all : ReadsOnly Anything a d
-  read_all = reads_then Anything a b d one (reads_then Anything b c d two three)
+-- ---- the vouchers and the sessions with counters that were read of other tables
 
-  -- nothing was changed by reading
-  read_same : HasCleanDisk d → IsTrue a.is_open → d.now ≡ a.now
-  read_same clean live = same_now Anything a d read_all clean live tt
+pub joined_counts : (result : Result (Vec VoucherValue Global) RowError) (vs vs1 : List OldVoucher)
+    (ks ks1 : List CountValue) (rows : List VoucherRow) (counts : List CountRow) → vs ≡ vs1 → ks ≡ ks1
+    → map old_voucher_read vs1 ≡ rows → map count_read ks1 ≡ counts
+    → IfOk result (λ joined. map voucher_read joined.items ≡ map old_voucher_read vs)
+    → IfOk result (λ joined. map voucher_count joined.items ≡ map count_read ks)
+    → IfOk result (λ joined. (map voucher_read joined.items ≡ rows) × (map voucher_count joined.items ≡
+    counts))
+joined_counts (Ok joined) vs vs1 ks ks1 rows counts same also read found one two =
+    (one ∙ ap (map old_voucher_read) same ∙ read, two ∙ ap (map count_read) also ∙ found)
+joined_counts (Err e) vs vs1 ks ks1 rows counts same also read found one two = tt
 
-  same_first : HasCleanDisk d → IsTrue a.is_open → (t : Contents) → HoldsIn 1 [] a.now t →
-      HoldsIn 1 [] d.now t
-  same_first clean live t was = subst (λ (db : Database). HoldsIn 1 [] db t) (sym (read_same clean live)) was
+pub joined_totals : (result : Result (Vec SessionValue Global) RowError) (ss ss1 : List OldSession)
+    (ms ms1 : List Total) (rows : List SessionRow) (totals : List TotalRow) → ss ≡ ss1 → ms ≡ ms1
+    → map old_session_read ss1 ≡ rows → map ends_row ms1 ≡ totals
+    → IfOk result (λ joined. map session_read joined.items ≡ map old_session_read ss)
+    → IfOk result (λ joined. map session_total joined.items ≡ map ends_row ms)
+    → IfOk result (λ joined. (map session_read joined.items ≡ rows) × (map session_total joined.items ≡
+    totals))
+joined_totals (Ok joined) ss ss1 ms ms1 rows totals same also read found one two =
+    (one ∙ ap (map old_session_read) same ∙ read, two ∙ ap (map ends_row) also ∙ found)
+joined_totals (Err e) ss ss1 ms ms1 rows totals same also read found one two = tt
 
-  pub upgrade_done : HasCleanDisk d → IsTrue a.is_open
-      → CommitsFrom First (λ _ _. Unit {0}) (after_migration First ks1 ms1) d e → HasMigrated First a e
+-- they are in the order of what they count
+pub in_order_counts : (t : Contents) → AreInOrder t → (vs vs1 : List OldVoucher) (ks ks1 : List CountValue)
+    → vs ≡ vs1 → ks ≡ ks1 → map old_voucher_read vs1 ≡ t.vouchers → map count_read ks1 ≡ t.counts
+    → map (λ (k : CountValue). (count_read k).code) ks ≡ map (λ (v : OldVoucher). (old_voucher_read v).code)
+    vs
+in_order_counts t order vs vs1 ks ks1 same also read found =
+    let code_of = λ (v : VoucherRow). v.code in
+    let counted = λ (k : CountRow). k.code in
+    sym (map-map counted count_read ks) ∙ ap (λ l. map counted (map count_read l)) also ∙ ap (map counted)
+    found
+    ∙ order.counts ∙ sym (ap (λ l. map code_of (map old_voucher_read l)) same ∙ ap (map code_of) read)
+    ∙ map-map code_of old_voucher_read vs
+
+pub in_order_totals : (t : Contents) → AreInOrder t → (ss ss1 : List OldSession) (ms ms1 : List Total)
+    → ss ≡ ss1 → ms ≡ ms1 → map old_session_read ss1 ≡ t.sessions → map ends_row ms1 ≡ t.totals
+    → map (λ (m : Total). m.number) ms ≡ map (λ (s : OldSession). s.number) ss
+in_order_totals t order ss ss1 ms ms1 same also read found =
+    let number_of = λ (s : SessionRow). s.number in
+    let totaled = λ (m : TotalRow). m.number in
+    sym (map-map totaled ends_row ms) ∙ ap (λ l. map totaled (map ends_row l)) also ∙ ap (map totaled) found
+    ∙ order.totals ∙ sym (ap (λ l. map number_of (map old_session_read l)) same ∙ ap (map number_of) read)
+    ∙ map-map number_of old_session_read ss
+
+-- the computed counters are in their order
+pub computed_counts : (vs vs1 : List OldVoucher) (ks ks1 : List CountValue) (grants : List GrantRow)
+    → vs1 ≡ vs → ks ≡ ks1 → counts_read ks1 ≡ map (count_from grants) (map old_voucher_read vs1)
+    → map (λ (k : CountValue). (count_read k).code) ks ≡ map (λ (v : OldVoucher). (old_voucher_read v).code)
+    vs
+computed_counts vs vs1 ks ks1 grants same also is =
+    sym (map-map (λ (k : CountRow). k.code) count_read ks)
+    ∙ ap (λ l. map (λ (k : CountRow). k.code) (counts_read l)) also ∙ ap (map (λ (k : CountRow). k.code)) is
+    ∙ map-map (λ (k : CountRow). k.code) (count_from grants) (map old_voucher_read vs1)
+    ∙ map-map (λ (v : VoucherRow). v.code) old_voucher_read vs1
+    ∙ ap (map (λ (v : OldVoucher). (old_voucher_read v).code)) same
+
+pub computed_totals : (ss ss1 : List OldSession) (ms ms1 : List Total) (rows : Rows)
+    → ss1 ≡ ss → ms ≡ ms1 → totals_read ms1 ≡ map (total_from rows) (map old_session_read ss1)
+    → map (λ (m : Total). m.number) ms ≡ map (λ (s : OldSession). s.number) ss
+computed_totals ss ss1 ms ms1 rows same also is =
+    sym (map-map (λ (m : TotalRow). m.number) ends_row ms)
+    ∙ ap (λ l. map (λ (m : TotalRow). m.number) (totals_read l)) also ∙ ap (map (λ (m : TotalRow). m.number))
+    is
+    ∙ map-map (λ (m : TotalRow). m.number) (total_from rows) (map old_session_read ss1)
+    ∙ map-map (λ (s : SessionRow). s.number) old_session_read ss1
+    ∙ ap (map (λ (s : OldSession). s.number)) same
+
+-- ---- from the rows that were read
+
+module _ (from : OldSchema) (a c e : State) (reads : ReadsOnly Anything a c) (vs vs1 : List VoucherValue)
+    (ss ss1 : List SessionValue) (same : vs1 ≡ vs) (also : ss1 ≡ ss)
+    (known : HasCleanDisk c → IsTrue a.is_open → (t : Contents) → HoldsIn (version_number from) [] a.now t
+    → AreCountedOf from t vs × AreTotaledOf from t ss) where
+  read_same : HasCleanDisk c → IsTrue a.is_open → c.now ≡ a.now
+  read_same clean live = same_now Anything a c reads clean live tt
+
+  held_still : HasCleanDisk c → IsTrue a.is_open → (t : Contents) → HoldsIn (version_number from) [] a.now t
+      → HoldsIn (version_number from) [] c.now t
+  held_still clean live t was =
+      subst (λ (db : Database). HoldsIn (version_number from) [] db t) (sym (read_same clean live)) was
+
+  comes_to : HasCleanDisk c → IsTrue a.is_open → (t : Contents) → HoldsIn (version_number from) [] a.now t
+      → after_migration from vs1 ss1 t ≡ migrated_rows from t
+  comes_to clean live t was =
+      let k = known clean live t was in
+      ap (λ l. after_migration from l ss1 t) same ∙ ap (λ l. after_migration from vs l t) also
+      ∙ brought from vs ss t k.0 k.1 (held_rise from a.now t was)
+
+  pub upgrade_done : HasCleanDisk c → IsTrue a.is_open
+      → CommitsFrom from (λ _ _. Unit {0}) (after_migration from vs1 ss1) c e → HasMigrated from a e
   upgrade_done clean live gained = record {
-    holds = λ t was.
-        let first = of_first a.now t was in
-        let k = knows clean live t first in
-        let rise = summed_rise d.now t ms1 k.first k.totals in
-        subst (Holds e.now) (upgraded_is ks1 ms1 t rise k.counts k.totals)
-        (gained.holds t (same_first clean live t was) tt);
+    holds = λ t was. subst (Holds e.now) (comes_to clean live t was)
+        (gained.holds t (held_still clean live t was) tt);
     others = λ t was. subst (λ (db : Database). KeepsOthers db e.now) (read_same clean live)
-        (gained.others t (same_first clean live t was) tt);
+        (gained.others t (held_still clean live t was) tt);
     committed = gained.committed;
     ended = gained.ended;
     is_open = gained.is_open;
   }
 
-  pub upgrade_crash : Survives d e
-      (λ trees. IsTrue d.is_open → MayCommitFrom First (λ _ _. Unit {0}) (after_migration First ks1 ms1) d
-      trees)
-      → Survives a e (MayMigrate First a)
+  pub upgrade_crash : Survives c e (λ trees. IsTrue c.is_open
+      → MayCommitFrom from (λ _ _. Unit {0}) (after_migration from vs1 ss1) c trees)
+      → Survives a e (MayMigrate from a)
   upgrade_crash ending =
-      survives_then a d e _ _ (MayMigrate First a) (λ _ db none live t first. absurd (none live tt))
+      survives_then a c e _ _ (MayMigrate from a) (λ _ db none live t first. absurd (none live tt))
       (λ clean db may live t was.
-      let first = of_first a.now t was in
-      let late : HasCleanDisk d = omega (arith, clean, ending.clean) in
-      let k = knows late live t first in
-      let rise = summed_rise d.now t ms1 k.first k.totals in
-      let left = may (still_open Anything a d (read_all) late live tt) t (same_first late live t was) tt in (
-        subst (CrashStateHoldsRows db) (upgraded_is ks1 ms1 t rise k.counts k.totals) left.0,
-        subst (λ (was : Database). CrashStateHasOthers was db)
-            (read_same late live) left.1,
+      let late : HasCleanDisk c = omega (arith, clean, ending.clean) in
+      let left = may (still_open Anything a c reads late live tt) t (held_still late live t was) tt in (
+        subst (CrashStateHoldsRows db) (comes_to late live t was) left.0,
+        subst (λ (was : Database). CrashStateHasOthers was db) (read_same late live) left.1,
       ))
-      read_all.crash ending
+      reads.crash ending
 
 -- where a reading fails, nothing is changed
-pub fails_crash : (a b : State) → Fails Anything a b → Survives a b (MayMigrate First a)
-fails_crash a b failed =
+pub fails_crash : (from : OldSchema) (a b : State) → Fails Anything a b → Survives a b (MayMigrate from a)
+fails_crash from a b failed =
     survives_weaker a b _ _ (λ _ db none live t first. absurd (none live tt)) failed.crash
 
 pub undone_after : (a d e : State) → ReadsOnly Anything a d → HasCleanDisk d → IsTrue a.is_open
@@ -223,34 +205,12 @@ undone_after a d e read clean live undone =
       ended = undone.ended;
     }
 
--- a schema version that has its counters is migrated without new ones
-pub later_done : (from : OldSchema) (a e : State)
-    → ((t : Contents) → after_migration from [] [] t ≡ migrated_rows from t)
-    → CommitsFrom from (λ _ _. Unit {0}) (after_migration from [] []) a e → HasMigrated from a e
-later_done from a e same led = record {
-  holds = λ t h. subst (Holds e.now) (same t) (led.holds t h tt);
-  others = λ t h. led.others t h tt;
-  committed = led.committed;
-  ended = led.ended;
-  is_open = led.is_open;
-}
-
-pub later_crash : (from : OldSchema) (a e : State)
-    → ((t : Contents) → after_migration from [] [] t ≡ migrated_rows from t)
-    → Survives a e (λ trees. IsTrue a.is_open
-    → MayCommitFrom from (λ _ _. Unit {0}) (after_migration from [] []) a trees)
-    → Survives a e (MayMigrate from a)
-later_crash from a e same = survives_weaker a e _ _ (λ _ db may live t h. let left = may live t h tt in (
-  subst (CrashStateHoldsRows db) (same t) left.0,
-  left.1,
-))
-
 -- ---- the rows are read, and then committed
 
 module _ (from : OldSchema) (read : List WholeTable) (f : Contents → Contents) (a b e : State)
     (reads : ReadsOnly Anything a b) (free : AreNamesFree a.now.schema)
     (are : HasCleanDisk b → IsTrue a.is_open → (t : Contents) → HoldsIn (version_number from) [] a.now t
-    → AreRead read (tables_of from) t) where
+    → AreRead read (copied_tables from) t) where
   still : HasCleanDisk b → IsTrue a.is_open → b.now ≡ a.now
   still clean live = same_now Anything a b reads clean live tt
 

@@ -3,17 +3,11 @@ use Rattle.portal_tables_rows.proofs.Common.{◌≡◌, IsTrue, Result, Ok, Err,
 use Rattle.portal_tables_rows.proofs.Common.{◌∙◌, arith, err_from_is_err_and, IfOk-weaker, Schema}
 use Rattle.portal_tables_rows.proofs.Common.{Database, Held, state, State, HasCleanDisk, Looks, ReadsOnly}
 use Rattle.portal_tables_rows.proofs.Common.{looks_read, looks_then, looks_weaker, same_now, still_open}
-use Rattle.portal_tables_rows.proofs.Common.{Contents, HoldsFirst, HasFirst, NotForeign, Holds, HasTables}
-use Rattle.portal_tables_rows.proofs.Common.{this_schema_version, RowError}
+use Rattle.portal_tables_rows.proofs.Common.{Contents, NotForeign, Holds, HasTables, RowError, Anything}
+use Rattle.portal_tables_rows.proofs.Common.{ReadsTables}
 use Rattle.sqlite.specs.Store.{Ghosts}
 use Rattle.portal_tables_rows.specs.Selects.{ReadsRow}
-use Rattle.portal_tables_rows.specs.Selects.{ReadsFirst, ReadsOpen}
-use Rattle.portal_tables_rows.proofs.WholeReading.{first_held, first_there}
-use Rattle.portal_tables_rows.proofs.Common.{false}
-use Rattle.portal_tables_sql.specs.Indexes.{our_indexes}
-
-pub first_stands : (db : Database) (t : Contents) → HoldsFirst db t → HasFirst db.schema
-first_stands db t held = (held.0, (held.1.places, held.1.tables_exist))
+use Rattle.portal_tables_rows.specs.Selects.{ReadsOpen}
 
 pub all_stand : (db : Database) (t : Contents) → Holds db t → HasTables db.schema
 all_stand db t held = (held.places, held.tables_exist)
@@ -24,7 +18,7 @@ early Has (Ok x) a b looks clean = omega (arith, clean, looks.crash.clean)
 early Has (Err e) a b looks clean = omega (arith, clean, looks.crash.clean)
 
 module _ {S : Type 0} (g : Ghosts S) where
-  -- a read of one table, and of tables that each schema version has
+  -- a read of one table
   pub row_opened : {A : Type 0} {a b : Held S} {result : Result A RowError} {Is : Contents → A → Type 0}
       {Own : Contents → Type 0} → ReadsRow g a b result Is Own → ReadsOpen g HasTables Holds a b result Is Own
   row_opened r = record {
@@ -33,25 +27,37 @@ module _ {S : Type 0} (g : Ghosts S) where
     foreign = λ clean live t held own. r.foreign clean t held own;
   }
 
-  pub first_opened : {A : Type 0} {a b : Held S} {result : Result A RowError}
-      {Is : Contents → A → Type 0} {Own : Contents → Type 0} → ReadsFirst g a b result Is Own
-      → ReadsOpen g HasFirst HoldsFirst a b result Is Own
-  first_opened r = record {
+  -- reads of tables that others have too, or that hold more
+  pub open_wider : {Has More : Schema → Type 0} {Hold Whole : Database → Contents → Type 0} {A : Type 0}
+      {a b : Held S} {result : Result A RowError} {Is : Contents → A → Type 0} {Own : Contents → Type 0}
+      → ((schema : Schema) → More schema → Has schema)
+      → ((db : Database) (t : Contents) → Whole db t → Hold db t)
+      → ReadsOpen g Has Hold a b result Is Own → ReadsOpen g More Whole a b result Is Own
+  open_wider {Has = Has} {More = More} {a = a} {result = result} there held r = record {
+    read = λ clean live t whole. r.read clean live t (held (state g a).now t whole);
+    looks = looks_weaker Has More there result _ _ r.looks;
+    foreign = λ clean live t whole. r.foreign clean live t (held (state g a).now t whole);
+  }
+
+  -- of tables of other schema versions
+  pub tables_opened : {Has : Schema → Type 0} {Hold : Database → Contents → Type 0} {A : Type 0}
+      {a b : Held S} {result : Result A RowError} {Is : Contents → A → Type 0} {Own : Contents → Type 0}
+      → ReadsTables g Has Hold a b result Is Own → ReadsOpen g Has Hold a b result Is Own
+  tables_opened r = record {
     read = λ clean live t held. r.found clean t held;
     looks = r.looks;
     foreign = λ clean live t held own. r.foreign clean t held own;
   }
 
-  pub open_wider : {A : Type 0} {a b : Held S} {result : Result A RowError} {Is : Contents → A → Type 0}
-      {Own : Contents → Type 0} → ReadsOpen g HasFirst HoldsFirst a b result Is Own
-      → ReadsOpen g HasTables Holds a b result Is Own
-  open_wider {a = a} {result = result} r = record {
-    read =
-        λ clean live t held. r.read clean live t (first_held false this_schema_version our_indexes
-        (state g a).now t held);
-    looks = looks_weaker HasFirst HasTables first_there result _ _ r.looks;
-    foreign = λ clean live t held own.
-        r.foreign clean live t (first_held false this_schema_version our_indexes (state g a).now t held) own;
+  -- whatever the schema has
+  pub always_opened : {Has : Schema → Type 0} {Hold Whole : Database → Contents → Type 0} {A : Type 0}
+      {a b : Held S} {result : Result A RowError} {Is : Contents → A → Type 0} {Own : Contents → Type 0}
+      → ((db : Database) (t : Contents) → Whole db t → Hold db t)
+      → ReadsTables g Has Hold a b result Is Own → ReadsOpen g Anything Whole a b result Is Own
+  always_opened {a = a} held r = record {
+    read = λ clean live t whole. r.found clean t (held (state g a).now t whole);
+    looks = r.always;
+    foreign = λ clean live t whole own. r.foreign clean t (held (state g a).now t whole) own;
   }
 
   module _ {Has : Schema → Type 0} {Hold : Database → Contents → Type 0} where

@@ -1,22 +1,20 @@
 -- A statement on one table does not change the others.
-use Rattle.portal_tables_rows.proofs.Common.{◌≡◌, ◌==◌, ◌≤◌, ℕ, Bool, List, true, false, cond, inl, inr, refl}
-use Rattle.portal_tables_rows.proofs.Common.{sym, ap, subst, ◌∙◌, true≢false, slice_index_or, eq-eqb}
+use Rattle.portal_tables_rows.proofs.Common.{◌≡◌, ◌==◌, ℕ, Bool, List, true, false, cond, inl, inr, refl}
+use Rattle.portal_tables_rows.proofs.Common.{map, sym, ap, subst, ◌∙◌, true≢false, slice_index_or, eq-eqb}
 use Rattle.portal_tables_rows.proofs.Common.{eqb-true, cases_Bool, Schema, Table, Row, Database, IsDatabase}
 use Rattle.portal_tables_rows.proofs.Common.{State, Has, TableExists, Stores, whole_row, less_rowid, Plan}
 use Rattle.portal_tables_rows.proofs.Common.{VoucherRow, SessionRow, GrantRow, CountRow, TotalRow, head}
-use Rattle.portal_tables_rows.proofs.Common.{plans, batches, vouchers, sessions, grants, counts, totals}
-use Rattle.portal_tables_rows.proofs.Common.{requests, Contents, HeadRow, head_stored, plan_cells}
-use Rattle.portal_tables_rows.proofs.Common.{batch_cells, voucher_cells, session_stored, grant_stored}
-use Rattle.portal_tables_rows.proofs.Common.{count_cells, total_stored, request_cells, RequestRow}
-use Rattle.portal_tables_rows.proofs.Common.{HoldsTables}
-use Rattle.portal_tables_rows.proofs.Common.{TablesExist}
-use Rattle.portal_tables_sql.specs.Stored.{Keeps}
-use Rattle.portal_tables_sql.specs.Tables.{table_in, name_of, since}
+use Rattle.portal_tables_rows.proofs.Common.{plans, batches, vouchers, sessions, grants, requests, Contents}
+use Rattle.portal_tables_rows.proofs.Common.{HeadRow, head_stored, plan_cells, batch_cells, grant_stored}
+use Rattle.portal_tables_rows.proofs.Common.{request_cells, RequestRow, HoldsTables, TablesExist}
+use Rattle.portal_tables_rows.proofs.Common.{WholeVoucher, WholeSession, whole_voucher_cells}
+use Rattle.portal_tables_rows.proofs.Common.{whole_session_stored, count_of, total_of}
+use Rattle.portal_tables_sql.specs.Tables.{Layout, Together, IsTableIn, table_in, name_of}
 use Rattle.portal_tables_sql.specs.declared.our_indexes.OurIndex.{OurIndex}
 use Rattle.portal_tables_sql.specs.declared.our_tables.OurTable.{OurTable}
 use Rattle.portal_tables_sql.specs.declared.our_tables.OurTable.TheVariants as our
 use Rattle.portal_tables_sql.proofs.TableLemmas.{for_each, name_is, tree_is}
-use Rattle.portal_tables_rows.specs.Holds.{StoresIn, shown, cut_of}
+use Rattle.portal_tables_rows.specs.Holds.{StoresIn}
 use Rattle.sqlite_rules.specs.Edit.{Edit}
 use Rattle.sqlite_rules.proofs.ListLemmas.{all_has}
 use Rattle.sqlite_catalog.proofs.AlterLemmas.{place_has}
@@ -52,10 +50,6 @@ touches {old = old} {edit = edit} b here e = record {
   sound = e.sound;
 }
 
-pub moved : {cut : Row → Row} {rows now shown : List Row} → now ≡ rows
-    → Keeps cut rows shown → Keeps cut now shown
-moved {cut = cut} {shown = shown} same h = subst (λ r. Keeps cut r shown) (sym same) h
-
 -- ---- each table but the one that was touched stores the rows that it stored
 
 abbrev initial_of : OurTable → ℕ
@@ -74,40 +68,41 @@ same_table : (x y : OurTable) → (initial_of x == initial_of y) ≡ true → x 
 same_table x y same =
     sym (named_so x) ∙ ap by_initial (eqb-true (initial_of x) (initial_of y) same) ∙ named_so y
 
--- the rows of the other tables are the same
 abbrev Unless : Bool → Type 0 → Type 0
 Unless true P = Unit {0}
 Unless false P = P
 
-abbrev Differ : OurTable → Contents → Contents → Type 0
-Differ y t now = (x : OurTable) → Unless (initial_of x == initial_of y) (shown x t ≡ shown x now)
+-- what stores the rows of the other tables, stores them still
+abbrev Differ : Layout → ℕ → OurTable → Contents → Contents → Type 0
+Differ layout v y t now = (x : OurTable) → IsTableIn layout v x → Unless (initial_of x == initial_of y)
+    ((rows : List Row) → StoresIn layout x rows t → StoresIn layout x rows now)
 
-module _ {keyed : Bool} {v : ℕ} {indexes : List OurIndex} {db after : Database} {t : Contents}
-    (h : HoldsTables keyed v indexes db t)
-    (y : OurTable) (k : Touches db (table_in keyed y (h.places y).tree) after) where
+module _ {layout : Layout} {v : ℕ} {indexes : List OurIndex} {db after : Database} {t : Contents}
+    (h : HoldsTables layout v indexes db t)
+    (y : OurTable) (k : Touches db (table_in layout y (h.places y).tree) after) where
   initials : (x z : OurTable) (n m : ℕ) → (initial_of x == initial_of z) ≡ false
-      → (initial (table_in keyed x n) == initial (table_in keyed z m)) ≡ false
-  initials x z n m off = rw (name_is keyed x n, name_is keyed z m) off
+      → (initial (table_in layout x n) == initial (table_in layout z m)) ≡ false
+  initials x z n m off = rw (name_is layout x n, name_is layout z m) off
 
-  stays : (x : OurTable) → since x ≤ v → (initial_of x == initial_of y) ≡ false
-      → StoresIn x (after.trees (h.places x).tree) t
+  stays : (x : OurTable) → IsTableIn layout v x → (initial_of x == initial_of y) ≡ false
+      → StoresIn layout x (after.trees (h.places x).tree) t
   stays x on off =
-      let table = table_in keyed x (h.places x).tree in
+      let table = table_in layout x (h.places x).tree in
       let same : after.trees table.tree ≡ db.trees table.tree =
       k.others (h.places x).at table (h.tables_exist.tables x on).exists (initials x y _ _ off) in
-      moved (subst (λ n. after.trees n ≡ db.trees n) (tree_is keyed x (h.places x).tree) same) (h.store x on)
+      subst (λ rows. StoresIn layout x rows t)
+      (sym (subst (λ n. after.trees n ≡ db.trees n) (tree_is layout x (h.places x).tree) same)) (h.store x on)
 
   -- the touched table stores these rows now
-  holds_now : (now : Contents) → StoresIn y (after.trees (h.places y).tree) now → Differ y t now
-      → HoldsTables keyed v indexes after now
+  holds_now : (now : Contents) → StoresIn layout y (after.trees (h.places y).tree) now
+      → Differ layout v y t now → HoldsTables layout v indexes after now
   holds_now now stored differ = record {
     places = h.places;
-    tables_exist = subst (λ s. TablesExist keyed v indexes s h.places) (sym k.schema) h.tables_exist;
+    tables_exist = subst (λ s. TablesExist layout v indexes s h.places) (sym k.schema) h.tables_exist;
     store = λ x on. elim (cases_Bool (initial_of x == initial_of y)) [
-      | inl same ↦
-          subst (λ z. StoresIn z (after.trees (h.places z).tree) now) (sym (same_table x y same)) stored
-      | inr off ↦
-          subst (Keeps (cut_of x) (after.trees (h.places x).tree)) (rw off at (differ x)) (stays x on off)
+      | inl same ↦ subst (λ z. StoresIn layout z (after.trees (h.places z).tree) now)
+          (sym (same_table x y same)) stored
+      | inr off ↦ (rw off at (differ x on)) (after.trees (h.places x).tree) (stays x on off)
     ];
     sound = k.sound;
   }
@@ -115,57 +110,65 @@ module _ {keyed : Bool} {v : ℕ} {indexes : List OurIndex} {db after : Database
 -- ---- the touched table stores these rows now
 
 module _ {v : ℕ} {indexes : List OurIndex} {db after : Database} {t : Contents}
-    (h : HoldsTables false v indexes db t) where
+    (h : HoldsTables Together v indexes db t) where
   pub heads_now : (now : List HeadRow) → Touches db (head (h.places our.Head).tree) after
       → Stores whole_row head_stored (after.trees (h.places our.Head).tree) now
-      → HoldsTables false v indexes after (record t { heads = now })
-  heads_now now k stored =
-      holds_now h our.Head k _ stored (for_each _ tt refl refl refl refl refl refl refl refl)
+      → HoldsTables Together v indexes after (record t { heads = now })
+  heads_now now k stored = holds_now h our.Head k _ stored
+      (for_each _ (λ on. tt) (λ on rows stored. stored) (λ on rows stored. stored)
+      (λ on rows stored. stored) (λ on rows stored. stored) (λ on rows stored. stored)
+      (λ on. absurd on.1) (λ on. absurd on.1) (λ on rows stored. stored))
 
   pub plans_now : (now : List Plan) → Touches db (plans (h.places our.Plans).tree) after
       → Stores less_rowid plan_cells (after.trees (h.places our.Plans).tree) now
-      → HoldsTables false v indexes after (record t { plans = now })
-  plans_now now k stored =
-      holds_now h our.Plans k _ stored (for_each _ refl tt refl refl refl refl refl refl refl)
+      → HoldsTables Together v indexes after (record t { plans = now })
+  plans_now now k stored = holds_now h our.Plans k _ stored
+      (for_each _ (λ on rows stored. stored) (λ on. tt) (λ on rows stored. stored)
+      (λ on rows stored. stored) (λ on rows stored. stored) (λ on rows stored. stored)
+      (λ on. absurd on.1) (λ on. absurd on.1) (λ on rows stored. stored))
 
   pub batches_now : (now : List Batch) → Touches db (batches (h.places our.Batches).tree) after
       → Stores less_rowid batch_cells (after.trees (h.places our.Batches).tree) now
-      → HoldsTables false v indexes after (record t { batches = now })
-  batches_now now k stored =
-      holds_now h our.Batches k _ stored (for_each _ refl refl tt refl refl refl refl refl refl)
+      → HoldsTables Together v indexes after (record t { batches = now })
+  batches_now now k stored = holds_now h our.Batches k _ stored
+      (for_each _ (λ on rows stored. stored) (λ on rows stored. stored) (λ on. tt)
+      (λ on rows stored. stored) (λ on rows stored. stored) (λ on rows stored. stored)
+      (λ on. absurd on.1) (λ on. absurd on.1) (λ on rows stored. stored))
 
-  pub vouchers_now : (now : List VoucherRow) → Touches db (vouchers (h.places our.Vouchers).tree) after
-      → Stores less_rowid voucher_cells (after.trees (h.places our.Vouchers).tree) now
-      → HoldsTables false v indexes after (record t { vouchers = now })
-  vouchers_now now k stored =
-      holds_now h our.Vouchers k _ stored (for_each _ refl refl refl tt refl refl refl refl refl)
+  pub vouchers_now : (vs : List VoucherRow) (ks : List CountRow) (now : List WholeVoucher)
+      → map (λ (w : WholeVoucher). w.row) now ≡ vs → map count_of now ≡ ks
+      → Touches db (vouchers (h.places our.Vouchers).tree) after
+      → Stores less_rowid whole_voucher_cells (after.trees (h.places our.Vouchers).tree) now
+      → HoldsTables Together v indexes after (record t { vouchers = vs; counts = ks })
+  vouchers_now vs ks now rows counts k stored = holds_now h our.Vouchers k _
+      (record { whole = now; stored = stored; their_rows = rows; their_counts = counts })
+      (for_each _ (λ on rows stored. stored) (λ on rows stored. stored) (λ on rows stored. stored)
+      (λ on. tt) (λ on rows stored. stored) (λ on rows stored. stored)
+      (λ on. absurd on.1) (λ on. absurd on.1) (λ on rows stored. stored))
 
-  pub sessions_now : (now : List SessionRow) → Touches db (sessions (h.places our.Sessions).tree) after
-      → Stores whole_row session_stored (after.trees (h.places our.Sessions).tree) now
-      → HoldsTables false v indexes after (record t { sessions = now })
-  sessions_now now k stored =
-      holds_now h our.Sessions k _ stored (for_each _ refl refl refl refl tt refl refl refl refl)
+  pub sessions_now : (ss : List SessionRow) (ms : List TotalRow) (now : List WholeSession)
+      → map (λ (w : WholeSession). w.row) now ≡ ss → map total_of now ≡ ms
+      → Touches db (sessions (h.places our.Sessions).tree) after
+      → Stores whole_row whole_session_stored (after.trees (h.places our.Sessions).tree) now
+      → HoldsTables Together v indexes after (record t { sessions = ss; totals = ms })
+  sessions_now ss ms now rows totals k stored = holds_now h our.Sessions k _
+      (record { whole = now; stored = stored; their_rows = rows; their_totals = totals })
+      (for_each _ (λ on rows stored. stored) (λ on rows stored. stored) (λ on rows stored. stored)
+      (λ on rows stored. stored) (λ on. tt) (λ on rows stored. stored)
+      (λ on. absurd on.1) (λ on. absurd on.1) (λ on rows stored. stored))
 
   pub grants_now : (now : List GrantRow) → Touches db (grants (h.places our.Grants).tree) after
       → Stores whole_row grant_stored (after.trees (h.places our.Grants).tree) now
-      → HoldsTables false v indexes after (record t { grants = now })
-  grants_now now k stored =
-      holds_now h our.Grants k _ stored (for_each _ refl refl refl refl refl tt refl refl refl)
-
-  pub counts_now : (now : List CountRow) → Touches db (counts (h.places our.Counts).tree) after
-      → Stores less_rowid count_cells (after.trees (h.places our.Counts).tree) now
-      → HoldsTables false v indexes after (record t { counts = now })
-  counts_now now k stored =
-      holds_now h our.Counts k _ stored (for_each _ refl refl refl refl refl refl tt refl refl)
-
-  pub totals_now : (now : List TotalRow) → Touches db (totals (h.places our.Totals).tree) after
-      → Stores whole_row total_stored (after.trees (h.places our.Totals).tree) now
-      → HoldsTables false v indexes after (record t { totals = now })
-  totals_now now k stored =
-      holds_now h our.Totals k _ stored (for_each _ refl refl refl refl refl refl refl tt refl)
+      → HoldsTables Together v indexes after (record t { grants = now })
+  grants_now now k stored = holds_now h our.Grants k _ stored
+      (for_each _ (λ on rows stored. stored) (λ on rows stored. stored) (λ on rows stored. stored)
+      (λ on rows stored. stored) (λ on rows stored. stored) (λ on. tt)
+      (λ on. absurd on.1) (λ on. absurd on.1) (λ on rows stored. stored))
 
   pub requests_now : (now : List RequestRow) → Touches db (requests (h.places our.Requests).tree) after
       → Stores less_rowid request_cells (after.trees (h.places our.Requests).tree) now
-      → HoldsTables false v indexes after (record t { requests = now })
-  requests_now now k stored =
-      holds_now h our.Requests k _ stored (for_each _ refl refl refl refl refl refl refl refl tt)
+      → HoldsTables Together v indexes after (record t { requests = now })
+  requests_now now k stored = holds_now h our.Requests k _ stored
+      (for_each _ (λ on rows stored. stored) (λ on rows stored. stored) (λ on rows stored. stored)
+      (λ on rows stored. stored) (λ on rows stored. stored) (λ on rows stored. stored)
+      (λ on. absurd on.1) (λ on. absurd on.1) (λ on. tt))

@@ -1,5 +1,5 @@
 -- What the test of the indexes means.
-use Rattle.portal_tables_rows.proofs.Common.{◌≡◌, ◌||◌, inl, inr, ℕ, Bool, true, false, List, [], ◌∷◌, Some}
+use Rattle.portal_tables_rows.proofs.Common.{◌≡◌, ◌||◌, inl, inr, ℕ, Bool, true, List, [], ◌∷◌, Some}
 use Rattle.portal_tables_rows.proofs.Common.{refl, sym, ap, ◌∙◌, true≢false, slice_get}
 use Rattle.portal_tables_rows.proofs.Common.{option_and_then, list_any, cases_Bool, eqb-true, Schema}
 use Rattle.portal_tables_rows.proofs.Common.{Index, table_named, Has, both, subst}
@@ -9,7 +9,7 @@ use Rattle.portal_tables_rows.proofs.Common.{Holds, HoldsIn}
 use Rattle.std.proofs.lemmas.Slice.Eq.{bytes_eq-Decides}
 use Rattle.sqlite_rules.proofs.ListLemmas.{test_has}
 use Rattle.portal_tables_sql.specs.Indexes.{described_index, our_indexes, HasOurIndex}
-use Rattle.portal_tables_sql.specs.Tables.{name_of, table_of}
+use Rattle.portal_tables_sql.specs.Tables.{Together, name_of, table_of}
 use Rattle.portal_tables_sql.specs.declared.our_indexes.OurIndex.{OurIndex}
 use Rattle.portal_tables_sql.proofs.TableLemmas.{name_is, tree_is}
 use Rattle.portal_tables_rows.specs.SchemaVersions.{has_index_on, has_our_index, is_indexed, is_our_index}
@@ -35,7 +35,7 @@ index_there x schema at tree on named there =
     sym (ap (has_index_on x schema.indexes) table) ∙ on in
     let any : list_any (is_our_index x tree) schema.indexes ≡ true =
     subst (λ n. list_any (is_our_index x n) schema.indexes ≡ true)
-    (tree_is false (described_index x).table tree) on_tree in
+    (tree_is Together (described_index x).table tree) on_tree in
     let it = any_of (is_our_index x tree) schema.indexes any in
     let index : Index = it.0 in
     let parts = both _ _ it.2 in
@@ -50,8 +50,8 @@ index_there x schema at tree on named there =
     )
 
 pub indexed_stands : (schema : Schema) → is_indexed schema ≡ true → (places : TablePlaces)
-    → TablesExist false this_schema_version [] schema places
-    → TablesExist false this_schema_version our_indexes schema places
+    → TablesExist Together this_schema_version [] schema places
+    → TablesExist Together this_schema_version our_indexes schema places
 indexed_stands schema on places s = record {
   tables = s.tables;
   indexed = λ x has.
@@ -59,7 +59,7 @@ indexed_stands schema on places s = record {
       let there = (s.tables table (is_there x)).exists in
       index_there x schema (places table).at (places table).tree
       (test_has (has_our_index schema) our_indexes x on has)
-      (subst (λ n. table_named schema n ≡ Some (places table).at) (name_is false table (places table).tree)
+      (subst (λ n. table_named schema n ≡ Some (places table).at) (name_is Together table (places table).tree)
       there.named) there.there;
 }
 

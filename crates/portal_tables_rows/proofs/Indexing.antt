@@ -1,5 +1,5 @@
 -- CREATE INDEX keeps all that the tables hold, and the index exists after it.
-use Rattle.portal_tables_rows.proofs.Common.{◌≡◌, ◌≤◌, inl, inr, lit≤, ℕ, false, List, [], ◌∷◌, ◌++◌, Ok}
+use Rattle.portal_tables_rows.proofs.Common.{◌≡◌, inl, inr, lit≤, ℕ, List, [], ◌∷◌, ◌++◌, Ok}
 use Rattle.portal_tables_rows.proofs.Common.{Result, Error, Ghosts, refl, sym, ap, subst, ◌∙◌, Schema}
 use Rattle.portal_tables_rows.proofs.Common.{Table, Database, State, Index, next_tree, Has, all_has}
 use Rattle.portal_tables_rows.proofs.Common.{Contents, TablePlace, IsTableAt, HoldsIn, KeepsOthers}
@@ -8,7 +8,7 @@ use Rattle.sqlite.specs.declared.transaction.Transaction.{Transaction}
 use Rattle.sqlite_catalog.specs.Change.{with_index}
 use Rattle.portal_tables_sql.specs.Indexes.{described_index, HasOurIndex}
 use Rattle.portal_tables_sql.specs.Inside.{Inside, Runs}
-use Rattle.portal_tables_sql.specs.Tables.{since, table_of}
+use Rattle.portal_tables_sql.specs.Tables.{IsTableIn, Together, table_of}
 use Rattle.portal_tables_sql.specs.declared.our_indexes.OurIndex.{OurIndex}
 use Rattle.portal_tables_sql.specs.declared.our_indexes.OurIndex.TheVariants as by
 use Rattle.portal_tables_sql.proofs.IndexLemmas.{HasIndexed, indexes, still_stands_indexed, rows_indexed}
@@ -19,7 +19,7 @@ use Rattle.portal_tables_sql.proofs.TableExistsLemmas.{has_last}
 use Rattle.portal_tables_sql.proofs.TableLemmas.{tree_is}
 use Rattle.portal_tables_sql.proofs.Texts.{same_value}
 use Rattle.portal_tables_rows.specs.Creation.{Indexes}
-use Rattle.portal_tables_rows.proofs.HoldsLemmas.{moved}
+use Rattle.portal_tables_rows.specs.Holds.{StoresIn}
 use Rattle.portal_tables_rows.proofs.OthersLemmas.{others_none, others_then}
 use Rattle.portal_tables_rows.proofs.OthersMade.{has_more}
 
@@ -38,16 +38,15 @@ abbrev IsMade : OurIndex → Database → ℕ → Database → Type 0
 IsMade x db tree after = HasIndexed db (on_table x tree) (described_index x).create after
 
 -- this version has the table of each index
-pub is_there : (x : OurIndex) → since (described_index x).table ≤ this_schema_version
-is_there by.PlansById = lit≤ tt
-is_there by.BatchesById = lit≤ tt
-is_there by.BatchesByIssue = lit≤ tt
-is_there by.VouchersByCode = lit≤ tt
-is_there by.VouchersByBatch = lit≤ tt
-is_there by.SessionsByDevice = lit≤ tt
-is_there by.GrantsByCode = lit≤ tt
-is_there by.CountsByCode = lit≤ tt
-is_there by.RequestsByKey = lit≤ tt
+pub is_there : (x : OurIndex) → IsTableIn Together this_schema_version (described_index x).table
+is_there by.PlansById = (lit≤ tt, tt)
+is_there by.BatchesById = (lit≤ tt, tt)
+is_there by.BatchesByIssue = (lit≤ tt, tt)
+is_there by.VouchersByCode = (lit≤ tt, tt)
+is_there by.VouchersByBatch = (lit≤ tt, tt)
+is_there by.SessionsByDevice = (lit≤ tt, tt)
+is_there by.GrantsByCode = (lit≤ tt, tt)
+is_there by.RequestsByKey = (lit≤ tt, tt)
 
 -- the index exists
 now_indexed : (x : OurIndex) (db : Database) (tree : ℕ) (after : Database) → IsMade x db tree after
@@ -60,7 +59,7 @@ now_indexed x db tree after k =
     k.is ∙ ap (λ (i : Index). with_index db.schema
     (record i { tree = next_tree db.schema; table = (on_table x tree).tree })) bare
     ∙ ap (λ (n : ℕ). with_index db.schema (record (index_at x tree defined.0)
-    { tree = next_tree db.schema; table = n })) (tree_is false (described_index x).table tree) in
+    { tree = next_tree db.schema; table = n })) (tree_is Together (described_index x).table tree) in
     subst (λ (s : Schema). HasOurIndex x s tree) (sym is) (
       made,
       has_last db.schema.indexes made,
@@ -97,7 +96,8 @@ still_holds xs x db after t h k =
       store = λ y has.
           let same = rows_indexed db _ _ after (h.places y).at (table_of y (h.places y).tree) k
           (h.tables_exist.tables y has).exists in
-          moved (subst (λ n. after.trees n ≡ db.trees n) (tree_is false y (h.places y).tree) same)
+          subst (λ rows. StoresIn Together y rows t)
+          (sym (subst (λ n. after.trees n ≡ db.trees n) (tree_is Together y (h.places y).tree) same))
           (h.store y has);
       sound = k.sound;
     }

@@ -30,6 +30,7 @@ pub mod OthersLemmas
 pub mod OthersMade
 pub mod OwnRows
 pub mod PageReading
+pub mod Parts
 pub mod Pairs
 pub mod Printed
 pub mod Reading

@@ -1,22 +1,21 @@
 -- The result of each SELECT of a list, by the rows that the tables hold.
-use Rattle.portal_tables_rows.proofs.Common.{false}
 use Rattle.portal_tables_rows.proofs.Common.{◌≡◌, ◌<◌, ℕ, List, [], ◌∷◌, ◌++◌, Bool, map, filter, length}
 use Rattle.portal_tables_rows.proofs.Common.{true, false, refl, sym, ap, ap₂, subst, ◌∙◌, lit<, bytes_eq}
-use Rattle.portal_tables_rows.proofs.Common.{Ordering, lit≤, Key, then-Equal, value_cmp-Text, Text, Row}
+use Rattle.portal_tables_rows.proofs.Common.{Ordering, Key, then-Equal, value_cmp-Text, Text, Row}
 use Rattle.portal_tables_rows.proofs.Common.{column, value_cmp, Schema, Table, Term, State, Shown, understood}
 use Rattle.portal_tables_rows.proofs.Common.{means_simple, key_tests, map-map, filter-map, number, has_key}
 use Rattle.portal_tables_rows.proofs.Common.{by_column, fields, IsSelection, text_test, selected, field_at}
-use Rattle.portal_tables_rows.proofs.Common.{orders_by, by, passes, keys_of, VoucherRow, TotalRow, vouchers}
-use Rattle.portal_tables_rows.proofs.Common.{totals, Contents, voucher_cells, total_cells, Holds, HasTables}
-use Rattle.portal_tables_rows.proofs.Common.{ListsAs, is_within, by_place, by_refund, by_sale, by_number}
+use Rattle.portal_tables_rows.proofs.Common.{orders_by, by, passes, keys_of, VoucherRow, vouchers, sessions}
+use Rattle.portal_tables_rows.proofs.Common.{Contents, total_cells, Holds, HasTables, WholeVoucher}
+use Rattle.portal_tables_rows.proofs.Common.{whole_voucher_cells, whole_session_cells, total_of}
+use Rattle.portal_tables_rows.proofs.Common.{ListsAs, is_within, by_place, by_refund, by_sale}
 use Rattle.portal_tables_rows.proofs.Common.{sale_columns, sale_cells, IsSimple}
-use Rattle.portal_tables_rows.proofs.Cells.{vouchers_in, totals_in}
-use Rattle.portal_tables_sql.proofs.SelectTexts.{total_columns, voucher_columns}
+use Rattle.portal_tables_rows.proofs.Cells.{vouchers_in, sessions_in}
+use Rattle.portal_tables_sql.proofs.SelectTexts.{voucher_columns}
 use Rattle.std.specs.Ordering.{ordering_then}
 use Rattle.sqlite.specs.Query.{key_cmp}
 use Rattle.portal_tables_rows.proofs.Listing.{number_order, option_order, sql_within, within_is, cells_listed}
 use Rattle.portal_tables_sql.proofs.WholeTables.{some_columns}
-use Rattle.portal_tables_sql.proofs.WholeTexts.{all_totals_means, all_totals_text}
 use Rattle.portal_tables_sql.proofs.ListTexts as texts
 use Rattle.portal_tables_sql.specs.declared.our_tables.OurTable.TheVariants as our
 use Rattle.portal_tables_sql.proofs.TableLemmas.{always}
@@ -49,8 +48,9 @@ within_tests table at from to within r =
 -- ---- the vouchers of a batch
 
 pub batch_rows_are : (old new : State) (batch : List ℕ) (rows : List Row)
-    → Shown texts.batch_vouchers_text (Text batch ∷ []) old new rows → (t : Contents) → Holds old.now t
-    → ListsAs voucher_cells (λ v. bytes_eq batch v.batch) by_place t.vouchers rows
+    → Shown texts.batch_vouchers_text (Text batch ∷ []) old new rows → (t : Contents) (h : Holds old.now t)
+    → ListsAs whole_voucher_cells (λ w. bytes_eq batch w.row.batch) (λ a b. by_place a.row b.row)
+    (h.store our.Vouchers (always _, tt)).whole rows
 batch_rows_are old new batch rows shown t h =
     let place = (h.places our.Vouchers) in
     let table = vouchers place.tree in
@@ -58,33 +58,52 @@ batch_rows_are old new batch rows shown t h =
     (has_key 1 (Text batch)) (key_tests table 1 (Text batch) [] (lit< tt) refl) (by_column 2)
     (orders_by table 2 (Text batch ∷ []) (lit< tt))
     (texts.batch_vouchers_means old.now.schema place.at place.tree
-    (h.tables_exist.tables our.Vouchers (always _)).exists) rows shown in
+    (h.tables_exist.tables our.Vouchers (always _, tt)).exists) rows shown in
     let all = subst (λ xs. IsSelection (has_key 1 (Text batch)) (by_column 2) xs rows)
-    (vouchers_in old.now.trees place.tree t.vouchers (h.store our.Vouchers (always _))) it in
-    cells_listed voucher_cells (λ (v : VoucherRow). bytes_eq batch v.batch) by_place
-    t.vouchers (has_key 1 (Text batch)) (by_column 2) (λ v. text_test v.batch batch)
-    (λ a b. number_order a.place b.place) rows all
+    (vouchers_in old.now.trees place.tree _ (h.store our.Vouchers (always _, tt)).stored) it in
+    cells_listed whole_voucher_cells (λ (w : WholeVoucher). bytes_eq batch w.row.batch)
+    (λ a b. by_place a.row b.row)
+    (h.store our.Vouchers (always _, tt)).whole (has_key 1 (Text batch)) (by_column 2)
+    (λ w. text_test w.row.batch batch) (λ a b. number_order a.row.place b.row.place) rows all
 
 pub batch_simple : (schema : Schema) → HasTables schema
     → IsSimple (understood schema texts.batch_vouchers_text)
 batch_simple schema h = let place = (h.0 our.Vouchers) in
     means_simple schema texts.batch_vouchers_text _ _
-    (texts.batch_vouchers_means schema place.at place.tree (h.1.tables our.Vouchers (always _)).exists)
+    (texts.batch_vouchers_means schema place.at place.tree (h.1.tables our.Vouchers (always _, tt)).exists)
 
 -- ---- the ends of all sessions
 
-pub totals_rows_are : (old new : State) (rows : List Row) → Shown all_totals_text [] old new rows
-    → (t : Contents) → Holds old.now t → ListsAs total_cells (λ _. true) by_number t.totals rows
+pub totals_rows_are : (old new : State) (rows : List Row) → Shown texts.all_totals_text [] old new rows
+    → (t : Contents) → Holds old.now t → rows ≡ map total_cells t.totals
 totals_rows_are old new rows shown t h =
-    let place = (h.places our.Totals) in
-    let table = totals place.tree in
-    let it = selected all_totals_text table [] _ [] old new total_columns (λ _. true) (λ r. refl)
-    (by_column 0) (orders_by table 0 [] (lit< tt)) (all_totals_means old.now.schema false place.at place.tree
-    (h.tables_exist.tables our.Totals (lit≤ tt)).exists) rows shown in
-    let all = subst (λ xs. IsSelection (λ _. true) (by_column 0) xs rows)
-    (totals_in old.now.trees place.tree t.totals (h.store our.Totals (lit≤ tt))) it in
-    cells_listed total_cells (λ (_ : TotalRow). true) by_number t.totals (λ _. true) (by_column 0) (λ m. refl)
-    (λ a b. number_order a.number b.number) rows all
+    let place = (h.places our.Sessions) in
+    let table = sessions place.tree in
+    let was = h.store our.Sessions (always _, tt) in
+    let three : Row → Row = λ r. column r 0 ∷ column r 6 ∷ column r 7 ∷ [] in
+    some_columns texts.all_totals_text table [] (texts.total_terms table) [] texts.total_columns old new
+    (λ _. true) (λ r. refl) three
+    (λ r. ap₃ (λ a b c. a ∷ b ∷ c ∷ []) (sym (field_at table 0 r (lit< tt)))
+    (sym (field_at table 6 r (lit< tt)))
+    (sym (field_at table 7 r (lit< tt))))
+    (texts.all_totals_means old.now.schema place.at place.tree (h.tables_exist.tables our.Sessions
+    (always _, tt)).exists) was.stored.are.rise rows shown
+    ∙ ap (map three) (all_pass _ ∙ sessions_in old.now.trees place.tree was.whole was.stored)
+    ∙ map-map three whole_session_cells was.whole ∙ sym (map-map total_cells total_of was.whole)
+    ∙ ap (map total_cells) was.their_totals
+  where
+    ap₃ : {A B C D : Type 0} (f : A → B → C → D) {a a' : A} {b b' : B} {c c' : C} → a ≡ a' → b ≡ b' → c ≡ c'
+        → f a b c ≡ f a' b' c'
+    ap₃ f p q r = λ i. f (p i) (q i) (r i)
+
+    all_pass : (xs : List Row) → filter (λ _. true) xs ≡ xs
+    all_pass [] = refl
+    all_pass (x ∷ xs) = ap (λ l. x ∷ l) (all_pass xs)
+
+pub totals_simple : (schema : Schema) → HasTables schema → IsSimple (understood schema texts.all_totals_text)
+totals_simple schema h = let place = (h.0 our.Sessions) in
+    means_simple schema texts.all_totals_text _ _
+    (texts.all_totals_means schema place.at place.tree (h.1.tables our.Sessions (always _, tt)).exists)
 
 -- ---- the vouchers with a time between two
 
@@ -99,21 +118,29 @@ module _ (old new : State) (from to : ℕ) (rows : List Row) (t : Contents) (h :
       let table = vouchers place.tree in
       let sold : Row → Bool = λ r. sql_within (column r 3) (number from) (number to) in
       let two : Row → Row = λ r. column r 1 ∷ column r 3 ∷ [] in
+      let was = h.store our.Vouchers (always _, tt) in
+      let passing : WholeVoucher → Bool = λ w. is_within from to w.row.sold in
       let listed = filter (λ (v : VoucherRow). is_within from to v.sold) t.vouchers in
       some_columns texts.sold_text table (texts.within_terms table 3) (texts.sold_terms table) params
       texts.sold_columns old new sold (within_tests table 3 from to (lit< tt)) two
       (λ r. ap₂ (λ a b. a ∷ b ∷ []) (sym (field_at table 1 r (lit< tt))) (sym (field_at table 3 r (lit< tt))))
       (texts.sold_means old.now.schema place.at place.tree (h.tables_exist.tables our.Vouchers
-      (always _)).exists) (h.store our.Vouchers (always _)).are.rise rows shown
-      ∙ ap (λ xs. map two (filter sold xs))
-      (vouchers_in old.now.trees place.tree t.vouchers (h.store our.Vouchers (always _)))
-      ∙ ap (map two) (filter-map sold voucher_cells t.vouchers
-      ∙ (λ i. map voucher_cells (filter (λ (v : VoucherRow). within_is v.sold from to i) t.vouchers)))
-      ∙ map-map two voucher_cells listed
+      (always _, tt)).exists) was.stored.are.rise rows shown
+      ∙ ap (λ xs. map two (filter sold xs)) (vouchers_in old.now.trees place.tree was.whole was.stored)
+      ∙ ap (map two) (filter-map sold whole_voucher_cells was.whole
+      ∙ (λ i. map whole_voucher_cells
+      (filter (λ (w : WholeVoucher). within_is w.row.sold from to i) was.whole)))
+      ∙ map-map two whole_voucher_cells (filter passing was.whole)
+      ∙ sym (map-map (λ v. sale_cells (sale_columns v)) (λ (w : WholeVoucher). w.row)
+      (filter passing was.whole))
+      ∙ ap (map (λ v. sale_cells (sale_columns v)))
+      (sym (filter-map (λ (v : VoucherRow). is_within from to v.sold) (λ (w : WholeVoucher). w.row) was.whole)
+      ∙ ap (filter (λ (v : VoucherRow). is_within from to v.sold)) was.their_rows)
       ∙ sym (map-map sale_cells sale_columns listed)
 
   pub ordered_rows_are : Shown texts.ordered_text params old new rows
-      → ListsAs voucher_cells (λ v. is_within from to v.sold) by_sale t.vouchers rows
+      → ListsAs whole_voucher_cells (λ w. is_within from to w.row.sold) (λ a b. by_sale a.row b.row)
+      (h.store our.Vouchers (always _, tt)).whole rows
   ordered_rows_are shown =
       let place = (h.places our.Vouchers) in
       let table = vouchers place.tree in
@@ -121,17 +148,20 @@ module _ (old new : State) (from to : ℕ) (rows : List Row) (t : Contents) (h :
       old new voucher_columns (λ r. sql_within (column r 3) (number from) (number to))
       (within_tests table 3 from to (lit< tt)) (by_columns 3 0)
       (orders_by_two table 3 0 params (lit< tt) (lit< tt)) (texts.ordered_means old.now.schema place.at
-      place.tree (h.tables_exist.tables our.Vouchers (always _)).exists) rows shown in
+      place.tree (h.tables_exist.tables our.Vouchers (always _, tt)).exists) rows shown in
       let all = subst (λ xs.
       IsSelection (λ r. sql_within (column r 3) (number from) (number to)) (by_columns 3 0) xs rows)
-      (vouchers_in old.now.trees place.tree t.vouchers (h.store our.Vouchers (always _))) it in
-      cells_listed voucher_cells (λ (v : VoucherRow). is_within from to v.sold) by_sale
-      t.vouchers (λ r. sql_within (column r 3) (number from) (number to)) (by_columns 3 0)
-      (λ v. within_is v.sold from to)
-      (λ a b. ap₂ ordering_then (option_order a.sold b.sold) (value_cmp-Text a.code b.code)) rows all
+      (vouchers_in old.now.trees place.tree _ (h.store our.Vouchers (always _, tt)).stored) it in
+      cells_listed whole_voucher_cells (λ (w : WholeVoucher). is_within from to w.row.sold)
+      (λ a b. by_sale a.row b.row) (h.store our.Vouchers (always _, tt)).whole
+      (λ r. sql_within (column r 3) (number from) (number to)) (by_columns 3 0)
+      (λ w. within_is w.row.sold from to)
+      (λ a b. ap₂ ordering_then (option_order a.row.sold b.row.sold)
+      (value_cmp-Text a.row.code b.row.code)) rows all
 
   pub refunded_rows_are : Shown texts.refunded_text params old new rows
-      → ListsAs voucher_cells (λ v. is_within from to v.refunded) by_refund t.vouchers rows
+      → ListsAs whole_voucher_cells (λ w. is_within from to w.row.refunded) (λ a b. by_refund a.row b.row)
+      (h.store our.Vouchers (always _, tt)).whole rows
   refunded_rows_are shown =
       let place = (h.places our.Vouchers) in
       let table = vouchers place.tree in
@@ -139,26 +169,28 @@ module _ (old new : State) (from to : ℕ) (rows : List Row) (t : Contents) (h :
       old new voucher_columns (λ r. sql_within (column r 4) (number from) (number to))
       (within_tests table 4 from to (lit< tt)) (by_columns 4 0)
       (orders_by_two table 4 0 params (lit< tt) (lit< tt)) (texts.refunded_means old.now.schema place.at
-      place.tree (h.tables_exist.tables our.Vouchers (always _)).exists) rows shown in
+      place.tree (h.tables_exist.tables our.Vouchers (always _, tt)).exists) rows shown in
       let all = subst (λ xs.
       IsSelection (λ r. sql_within (column r 4) (number from) (number to)) (by_columns 4 0) xs rows)
-      (vouchers_in old.now.trees place.tree t.vouchers (h.store our.Vouchers (always _))) it in
-      cells_listed voucher_cells (λ (v : VoucherRow). is_within from to v.refunded) by_refund
-      t.vouchers (λ r. sql_within (column r 4) (number from) (number to)) (by_columns 4 0)
-      (λ v. within_is v.refunded from to)
-      (λ a b. ap₂ ordering_then (option_order a.refunded b.refunded) (value_cmp-Text a.code b.code)) rows all
+      (vouchers_in old.now.trees place.tree _ (h.store our.Vouchers (always _, tt)).stored) it in
+      cells_listed whole_voucher_cells (λ (w : WholeVoucher). is_within from to w.row.refunded)
+      (λ a b. by_refund a.row b.row) (h.store our.Vouchers (always _, tt)).whole
+      (λ r. sql_within (column r 4) (number from) (number to)) (by_columns 4 0)
+      (λ w. within_is w.row.refunded from to)
+      (λ a b. ap₂ ordering_then (option_order a.row.refunded b.row.refunded)
+      (value_cmp-Text a.row.code b.row.code)) rows all
 
 pub sold_simple : (schema : Schema) → HasTables schema → IsSimple (understood schema texts.sold_text)
 sold_simple schema h = let place = (h.0 our.Vouchers) in
     means_simple schema texts.sold_text _ _
-    (texts.sold_means schema place.at place.tree (h.1.tables our.Vouchers (always _)).exists)
+    (texts.sold_means schema place.at place.tree (h.1.tables our.Vouchers (always _, tt)).exists)
 
 pub ordered_simple : (schema : Schema) → HasTables schema → IsSimple (understood schema texts.ordered_text)
 ordered_simple schema h = let place = (h.0 our.Vouchers) in
     means_simple schema texts.ordered_text _ _
-    (texts.ordered_means schema place.at place.tree (h.1.tables our.Vouchers (always _)).exists)
+    (texts.ordered_means schema place.at place.tree (h.1.tables our.Vouchers (always _, tt)).exists)
 
 pub refunded_simple : (schema : Schema) → HasTables schema → IsSimple (understood schema texts.refunded_text)
 refunded_simple schema h = let place = (h.0 our.Vouchers) in
     means_simple schema texts.refunded_text _ _
-    (texts.refunded_means schema place.at place.tree (h.1.tables our.Vouchers (always _)).exists)
+    (texts.refunded_means schema place.at place.tree (h.1.tables our.Vouchers (always _, tt)).exists)

@@ -2,13 +2,12 @@
 use Rattle.portal_tables_rows.proofs.Common.{◌≡◌, inl, inr, Result, Ok, ℕ, List, [], ◌∷◌, ◌++◌}
 use Rattle.portal_tables_rows.proofs.Common.{refl, sym, subst, ◌∙◌, Error, Ghosts, State, Database, Has}
 use Rattle.portal_tables_rows.proofs.Common.{HasMade, IsUnactedBy, TablePlace, KeepsOthers, makes_inside}
-use Rattle.portal_tables_rows.proofs.Common.{false}
 use Rattle.sqlite.specs.declared.transaction.Transaction.{Transaction}
 use Rattle.portal_tables_sql.specs.Inside.{Inside, Runs}
 use Rattle.portal_tables_sql.proofs.InsideLemmas.{inside_none, inside_then}
 use Rattle.portal_tables_sql.proofs.TableLemmas.{creates, counts_none, placed, tree_is, name_is}
 use Rattle.portal_tables_sql.proofs.TableLemmas.{names_itself, idle}
-use Rattle.portal_tables_sql.specs.Tables.{table_of, name_of, create_of}
+use Rattle.portal_tables_sql.specs.Tables.{Together, table_of, name_of, create_of}
 use Rattle.portal_tables_sql.specs.declared.our_tables.OurTable.{OurTable}
 use Rattle.portal_tables_rows.specs.Creation.{HaveMade, Makes}
 use Rattle.portal_tables_rows.proofs.CreateLemmas.{IsReady, new_place, still_by, made_ready, still_ready}
@@ -66,7 +65,7 @@ just_made db after x made free =
     let place = new_place db in (
       place,
       made_ready db after (table_of x) (placed x place.tree) (names_itself x) made
-          (subst (IsUnactedBy after.schema) (sym (name_is false x place.tree)) unacted),
+          (subst (IsUnactedBy after.schema) (sym (name_is Together x place.tree)) unacted),
     )
 
 still_new : (xs : List OurTable) (db after : Database) → HaveMade xs db after → (x : OurTable)
@@ -74,7 +73,8 @@ still_new : (xs : List OurTable) (db after : Database) → HaveMade xs db after 
 still_new [] db after same x new = subst (λ (d : Database). IsNew d x) (sym same) new
 still_new (y ∷ ys) db after made x new = still_new ys made.0 after made.2 x (
   new.0,
-  still_ready db made.0 (table_of y 0) (table_of x) new.0 (tree_is false x new.0.tree) (idle y) made.1 new.1,
+  still_ready db made.0 (table_of y 0) (table_of x) new.0 (tree_is Together x new.0.tree) (idle y) made.1
+      new.1,
 )
 
 pub all_new : (xs : List OurTable) (db after : Database)

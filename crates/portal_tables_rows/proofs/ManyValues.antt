@@ -5,16 +5,27 @@ use Rattle.portal_tables_rows.proofs.Common.{Global, refl, sym, ap, subst, ◌�
 use Rattle.portal_tables_rows.proofs.Common.{err_from_is_err_and, Ordering, map-map, Schema, Database, Row}
 use Rattle.portal_tables_rows.proofs.Common.{Held, state, HasCleanDisk, Shown, understood, looks_read}
 use Rattle.portal_tables_rows.proofs.Common.{looks_weaker, columns, Anything, Asks, IsSimple, OnlyAsks}
-use Rattle.portal_tables_rows.proofs.Common.{simple_asks, VoucherRow, VoucherValue, voucher_cells}
-use Rattle.portal_tables_rows.proofs.Common.{voucher_read, Contents, Holds, HoldsFirst, HasTables, HasFirst}
+use Rattle.portal_tables_rows.proofs.Common.{simple_asks, VoucherRow, SessionRow, CountRow, TotalRow}
+use Rattle.portal_tables_rows.proofs.Common.{VoucherValue, voucher_read, voucher_count, whole_voucher_read}
+use Rattle.portal_tables_rows.proofs.Common.{WholeVoucher, WholeSession, whole_voucher_cells, count_of}
+use Rattle.portal_tables_rows.proofs.Common.{total_of}
+use Rattle.portal_tables_rows.proofs.Common.{Contents, Holds, HoldsFirst, HasTables, HasFirst, HoldsApart}
+use Rattle.portal_tables_rows.proofs.Common.{HasApart, HoldsBare, HasBare, subst₂}
 use Rattle.portal_tables_rows.proofs.Common.{IsOfOwn, AreOwn, IsOwnVoucher, NotForeign, BlamesForeign}
-use Rattle.portal_tables_rows.proofs.Common.{RowError, ReadsMany, ReadsRow, Lists, ListsAs}
-use Rattle.portal_tables_rows.proofs.Cells.{exact_voucher}
+use Rattle.portal_tables_rows.proofs.Common.{IsOwnSession, IsOwnTotal, IsOwnWholeVoucher, IsOwnWholeSession}
+use Rattle.portal_tables_rows.proofs.Common.{RowError, ReadsMany, ReadsRow, ReadsTables, Lists, ListsAs}
+use Rattle.portal_tables_rows.proofs.Cells.{exact_whole_voucher}
+use Rattle.portal_tables_rows.proofs.Parts.{part_has, parts_listed, listed_among, others_among}
 use Rattle.sqlite.specs.Store.{Ghosts}
-use Rattle.portal_tables_rows.specs.Selects.{ReadsFirst}
+use Rattle.portal_tables_rows.specs.Audit.{AreAmong}
+use Rattle.portal_tables_rows.specs.Selects.{ReadsFirst, ReadsApart, ReadsBare}
+use Rattle.portal_tables_sql.proofs.TableLemmas.{always}
+use Rattle.portal_tables_sql.specs.declared.our_tables.OurTable.TheVariants as our
 use Rattle.portal_tables_rows.specs.Lists.{ListsFirst}
 use Rattle.portal_tables_rows.proofs.Listing.{read_listed, read_first}
-use Rattle.portal_tables_rows.proofs.OwnRows.{own_rows, own_listed, own_first}
+use Rattle.portal_tables_rows.proofs.OwnRows.{has_taken, own_rows, own_listed, own_first}
+use Rattle.std.proofs.lemmas.List.{take-map}
+use Rattle.portal_tables_rows.proofs.Common.{Has}
 use Rattle.portal_tables_rows.proofs.SumLemmas.{rows_exact}
 
 -- what the rows of a result tell, if values with their cells are read
@@ -86,17 +97,103 @@ module _ {S T : Type 0} (g : Ghosts S) {old new : Held S} {cells : T → Row} {w
     foreign = many_foreign Holds (λ t h. simple _ (h.places, h.tables_exist)) tells many;
   }
 
-  -- of the tables that each schema version has
+  -- of tables of other schema versions
+  pub reads_tables : (Has : Schema → Type 0) (Hold : Database → Contents → Type 0)
+      → ((db : Database) (t : Contents) → Hold db t → Has db.schema) → OnlyAsks sql
+      → ((schema : Schema) → Has schema → IsSimple (understood schema sql))
+      → ((rows : List Row) → Shown sql params (state g old) (state g new) rows → (t : Contents)
+      → Hold (state g old).now t → TellsAll cells width own rows (Is t) (Own t))
+      → ReadsMany g cells width own sql params old new result → ReadsTables g Has Hold old new result Is Own
+  reads_tables Has Hold there asks simple tells many = record {
+    found = many_found Hold (λ t h. simple _ (there _ t h)) tells many;
+    looks = looks_weaker (Asks sql) Has (λ schema has. asks schema) result _ _ many.looks;
+    always = looks_weaker (Asks sql) Anything (λ schema has. asks schema) result _ _ many.looks;
+    foreign = many_foreign Hold (λ t h. simple _ (there _ t h)) tells many;
+  }
+
+  -- of those that each schema version has
   pub reads_first : OnlyAsks sql → ((schema : Schema) → HasFirst schema → IsSimple (understood schema sql))
       → ((rows : List Row) → Shown sql params (state g old) (state g new) rows → (t : Contents)
       → HoldsFirst (state g old).now t → TellsAll cells width own rows (Is t) (Own t))
       → ReadsMany g cells width own sql params old new result → ReadsFirst g old new result Is Own
-  reads_first asks simple tells many = record {
-    found = many_found HoldsFirst (λ t h. simple _ (h.0, (h.1.places, h.1.tables_exist))) tells many;
-    looks = looks_weaker (Asks sql) HasFirst (λ schema has. asks schema) result _ _ many.looks;
-    always = looks_weaker (Asks sql) Anything (λ schema has. asks schema) result _ _ many.looks;
-    foreign = many_foreign HoldsFirst (λ t h. simple _ (h.0, (h.1.places, h.1.tables_exist))) tells many;
-  }
+  reads_first =
+      reads_tables HasFirst HoldsFirst (λ db t h. (h.0, (h.1.places, h.1.tables_exist)))
+
+  -- of those that keep their counters apart
+  pub reads_apart : (v : ℕ) → OnlyAsks sql
+      → ((schema : Schema) → HasApart v schema → IsSimple (understood schema sql))
+      → ((rows : List Row) → Shown sql params (state g old) (state g new) rows → (t : Contents)
+      → HoldsApart v (state g old).now t → TellsAll cells width own rows (Is t) (Own t))
+      → ReadsMany g cells width own sql params old new result → ReadsApart g v old new result Is Own
+  reads_apart v =
+      reads_tables (HasApart v) (HoldsApart v) (λ db t h. (h.0, (h.1.places, h.1.tables_exist)))
+
+  -- of this one, whatever indexes it has
+  pub reads_bare : OnlyAsks sql → ((schema : Schema) → HasBare schema → IsSimple (understood schema sql))
+      → ((rows : List Row) → Shown sql params (state g old) (state g new) rows → (t : Contents)
+      → HoldsBare (state g old).now t → TellsAll cells width own rows (Is t) (Own t))
+      → ReadsMany g cells width own sql params old new result → ReadsBare g old new result Is Own
+  reads_bare = reads_tables HasBare HoldsBare (λ db t h. (h.places, h.tables_exist))
+
+-- ---- vouchers with their counts, and sessions with their totals
+
+pub own_vouchers : (ws : List WholeVoucher) (vs : List VoucherRow) → map (λ (w : WholeVoucher). w.row) ws ≡ vs
+    → AreOwn IsOwnVoucher vs → AreOwn IsOwnWholeVoucher ws
+own_vouchers ws vs are own w has = own w.row (part_has (λ (x : WholeVoucher). x.row) ws vs are w has)
+
+pub own_sessions : (ws : List WholeSession) (ss : List SessionRow) (ms : List TotalRow)
+    → map (λ (w : WholeSession). w.row) ws ≡ ss → map total_of ws ≡ ms → AreOwn IsOwnSession ss
+    → AreOwn IsOwnTotal ms → AreOwn IsOwnWholeSession ws
+own_sessions ws ss ms rows totals own_rows own_totals w has = (
+  own_rows w.row (part_has (λ (x : WholeSession). x.row) ws ss rows w has),
+  own_totals (total_of w) (part_has total_of ws ms totals w has),
+)
+
+pub counts_of_read : (vs : List VoucherValue)
+    → map count_of (map whole_voucher_read vs) ≡ map voucher_count vs
+counts_of_read vs = map-map count_of whole_voucher_read vs
+
+pub rows_of_read : (vs : List VoucherValue)
+    → map (λ (w : WholeVoucher). w.row) (map whole_voucher_read vs) ≡ map voucher_read vs
+rows_of_read vs = map-map (λ (w : WholeVoucher). w.row) whole_voucher_read vs
+
+-- what is listed of the whole rows is listed of their parts
+whole_listed : (passes : VoucherRow → Bool) (cmp : VoucherRow → VoucherRow → Ordering)
+    (ws : List WholeVoucher)
+    (vs : List VoucherRow) (ks : List CountRow) → map (λ (w : WholeVoucher). w.row) ws ≡ vs
+    → map count_of ws ≡ ks → (values : List VoucherValue)
+    → Lists (λ (w : WholeVoucher). passes w.row) (λ a b. cmp a.row b.row) ws (map whole_voucher_read values)
+    → Lists passes cmp vs (map voucher_read values) × AreAmong (map voucher_count values) ks
+whole_listed passes cmp ws vs ks rows counts values l = (
+  subst₂ (Lists passes cmp) rows (rows_of_read values)
+      (parts_listed (λ (w : WholeVoucher). w.row) passes cmp ws (map whole_voucher_read values) l),
+  subst (λ cs. AreAmong cs ks) (counts_of_read values)
+      (others_among count_of ws (map whole_voucher_read values) ks counts
+      (listed_among (λ (w : WholeVoucher). passes w.row) (λ a b. cmp a.row b.row) ws
+      (map whole_voucher_read values) l)),
+)
+
+-- the same of the first of them
+pub first_listed : (limit : ℕ) (passes : VoucherRow → Bool) (cmp : VoucherRow → VoucherRow → Ordering)
+    (ws : List WholeVoucher) (vs : List VoucherRow) (ks : List CountRow)
+    → map (λ (w : WholeVoucher). w.row) ws ≡ vs → map count_of ws ≡ ks → (values : List VoucherValue)
+    → ListsFirst limit (λ (w : WholeVoucher). passes w.row) (λ a b. cmp a.row b.row) ws
+    (map whole_voucher_read values)
+    → ListsFirst limit passes cmp vs (map voucher_read values) × AreAmong (map voucher_count values) ks
+first_listed limit passes cmp ws vs ks rows counts values l =
+    let row = λ (w : WholeVoucher). w.row in (
+      record {
+        all = map row l.all;
+        lists = subst (λ ps. Lists passes cmp ps (map row l.all)) rows
+            (parts_listed row passes cmp ws l.all l.lists);
+        first = sym (rows_of_read values) ∙ ap (map row) l.first ∙ sym (take-map row limit l.all);
+      },
+      subst (λ cs. AreAmong cs ks) (counts_of_read values)
+          (others_among count_of ws (map whole_voucher_read values) ks counts
+          (λ x has. listed_among (λ (w : WholeVoucher). passes w.row) (λ a b. cmp a.row b.row) ws l.all
+          l.lists x
+          (has_taken limit l.all x (subst (λ xs. Has xs x) l.first has)))),
+    )
 
 -- the vouchers that pass a test, in an order
 pub lists_vouchers : {S : Type 0} (g : Ghosts S) {old new : Held S} (sql : List ℕ) (params : Row)
@@ -104,14 +201,23 @@ pub lists_vouchers : {S : Type 0} (g : Ghosts S) {old new : Held S} (sql : List 
     (cmp : VoucherRow → VoucherRow → Ordering)
     → ((schema : Schema) → HasTables schema → IsSimple (understood schema sql))
     → ((rows : List Row) → Shown sql params (state g old) (state g new) rows → (t : Contents)
-    → Holds (state g old).now t → ListsAs voucher_cells passes cmp t.vouchers rows)
-    → ReadsMany g (λ (v : VoucherValue). voucher_cells (voucher_read v)) 6
-    (IsOfOwn voucher_cells IsOwnVoucher) sql params old new result
-    → ReadsRow g old new result (λ t vs. Lists passes cmp t.vouchers (map voucher_read vs.items))
-    (λ t. AreOwn IsOwnVoucher t.vouchers)
+    (h : Holds (state g old).now t) → ListsAs whole_voucher_cells (λ w. passes w.row)
+    (λ a b. cmp a.row b.row) (h.store our.Vouchers (always _, tt)).whole rows)
+    → ReadsMany g (λ (v : VoucherValue). whole_voucher_cells (whole_voucher_read v)) 7
+    (IsOfOwn whole_voucher_cells IsOwnWholeVoucher) sql params old new result
+    → ReadsRow g old new result (λ t vs. Lists passes cmp t.vouchers (map voucher_read vs.items)
+    × AreAmong (map voucher_count vs.items) t.counts) (λ t. AreOwn IsOwnVoucher t.vouchers)
 lists_vouchers g sql params passes cmp simple listed many =
-    reads_many g sql params simple (λ rows shown t h. tells_listed voucher_cells 6 (λ v. refl) exact_voucher
-    IsOwnVoucher voucher_read passes cmp t.vouchers rows (listed rows shown t h)) many
+    reads_many g sql params simple (λ rows shown t h.
+    let was = h.store our.Vouchers (always _, tt) in
+    let it = tells_listed whole_voucher_cells 7 (λ v. refl) exact_whole_voucher IsOwnWholeVoucher
+    whole_voucher_read (λ (w : WholeVoucher). passes w.row) (λ a b. cmp a.row b.row) was.whole rows
+    (listed rows shown t h) in
+    record {
+      is = λ vs cut. whole_listed passes cmp was.whole t.vouchers t.counts was.their_rows was.their_counts
+          vs.items (it.is vs cut);
+      owns = λ own. it.owns (own_vouchers was.whole t.vouchers was.their_rows own);
+    }) many
 
 module _ {S A B : Type 0} (g : Ghosts S) {old new : Held S} {P : Contents → A → Type 0}
     {Q : Contents → B → Type 0} {Own : Contents → Type 0} where

@@ -1,17 +1,21 @@
 -- How the steps of a migration compose, and what they come to.
-use Rattle.std.proofs.lemmas.List.Sums.{fold-append}
-use Rattle.portal_tables_rows.proofs.Common.{nat_tests, ints, ◌≡◌, IsTrue, ℕ, suc, ◌+◌, ◌<◌, ◌≤◌}
-use Rattle.portal_tables_rows.proofs.Common.{map, fold, get_or, List, [], ◌∷◌, ◌++◌, refl, sym, ap, subst}
-use Rattle.portal_tables_rows.proofs.Common.{◌∙◌, arith, append_assoc, append-nil, Less, AllByRecursion}
-use Rattle.portal_tables_rows.proofs.Common.{IsStrictlyIncreasing, State, value_cmp, value_cmp-Int, number}
-use Rattle.portal_tables_rows.proofs.Common.{put_by, CountRow, TotalRow, Contents, this_schema_version}
-use Rattle.portal_tables_rows.proofs.Common.{MakesRows, with_count, with_counts, with_total}
-use Rattle.portal_tables_rows.proofs.Common.{with_schema_version, CountValue, Total, OldSchema, First}
-use Rattle.portal_tables_rows.proofs.Common.{Rebuilds, Rise, with_totals, counts_read, totals_read}
+use Rattle.portal_tables_rows.proofs.Common.{◌≡◌, IsTrue, List, [], ◌∷◌, ◌++◌, map, fold, sym, ap, ap₂}
+use Rattle.portal_tables_rows.proofs.Common.{subst}
+use Rattle.portal_tables_rows.proofs.Common.{◌∙◌, append-nil, append_assoc, map-map, State, put_by}
+use Rattle.portal_tables_rows.proofs.Common.{Contents, MakesRows, Rebuilds, OldSchema, SessionRow, TotalRow}
+use Rattle.portal_tables_rows.proofs.Common.{SessionValue, VoucherValue, WholeSession, WholeVoucher, count_of}
+use Rattle.portal_tables_rows.proofs.Common.{total_of, session_read, session_total, whole_session_read}
+use Rattle.portal_tables_rows.proofs.Common.{AreCountedOf, AreTotaledOf, after_migration, migrated_rows}
+use Rattle.portal_tables_rows.proofs.Common.{with_whole_voucher, with_whole_vouchers, with_whole_session}
+use Rattle.portal_tables_rows.proofs.Common.{with_whole_sessions, with_schema_version, this_schema_version}
+use Rattle.portal_tables_rows.specs.Migrations.{requests_after}
 use Rattle.portal_tables_rows.specs.declared.copies.WholeTable.{WholeTable}
-use Rattle.portal_tables_rows.proofs.Common.{with_empty_tables, after_migration}
-use Rattle.portal_tables_rows.proofs.Compose.{steps_then, steps_none, steps_same}
+use Rattle.portal_tables_rows.proofs.Compose.{steps_none, steps_same, steps_then}
+use Rattle.portal_tables_rows.proofs.ManyValues.{counts_of_read, rows_of_read}
 use Rattle.portal_tables_rows.proofs.OthersLemmas.{others_then}
+use Rattle.portal_tables_rows.proofs.Parts.{parts_pushed}
+use Rattle.portal_tables_rows.proofs.RestoreLemmas.{RisesFrom, put_all, rises_of_parts, rises_of_wholes}
+use Rattle.std.proofs.lemmas.List.Sums.{fold-append}
 
 pub rebuilt_then : (from : OldSchema) (read : List WholeTable) (f g : Contents → Contents) (x y z : State)
     → Rebuilds from read f x y → MakesRows g y z → Rebuilds from read (λ t. g (f t)) x z
@@ -24,95 +28,74 @@ rebuilt_then from read f g x y z p q = record {
 
 -- ---- loops
 
-pub kept_none : (a : State) → IsTrue a.in_transaction → MakesRows (with_counts []) a a
-kept_none a inside = steps_same (λ t. t) (with_counts []) a a
-    (λ t. ap (λ ks. record t { counts = ks }) (sym (append-nil t.counts))) (steps_none a inside)
+pub vouchers_none : (a : State) → IsTrue a.in_transaction → MakesRows (with_whole_vouchers []) a a
+vouchers_none a inside = steps_same (λ t. t) (with_whole_vouchers []) a a
+    (λ t. ap₂ (λ vs ks. record t { vouchers = vs; counts = ks }) (sym (append-nil t.vouchers))
+    (sym (append-nil t.counts))) (steps_none a inside)
 
-pub kept_then : (ks : List CountRow) (k : CountRow) (a b c : State) → MakesRows (with_counts ks) a b
-    → MakesRows (with_count k) b c → MakesRows (with_counts (ks ++ k ∷ [])) a c
-kept_then ks k a b c p q =
-    steps_same _ (with_counts (ks ++ k ∷ [])) a c
-    (λ t. ap (λ rows. record t { counts = rows }) (append_assoc t.counts ks (k ∷ [])))
-    (steps_then (with_counts ks) (with_count k) a b c p q)
+pub vouchers_then : (ws : List WholeVoucher) (w : WholeVoucher) (a b c : State)
+    → MakesRows (with_whole_vouchers ws) a b → MakesRows (with_whole_voucher w) b c
+    → MakesRows (with_whole_vouchers (ws ++ w ∷ [])) a c
+vouchers_then ws w a b c p q =
+    let row = λ (x : WholeVoucher). x.row in
+    steps_same _ (with_whole_vouchers (ws ++ w ∷ [])) a c
+    (λ t. ap₂ (λ vs ks. record t { vouchers = vs; counts = ks })
+    (append_assoc t.vouchers (map row ws) (w.row ∷ [])
+    ∙ ap (λ l. t.vouchers ++ l) (sym (parts_pushed row w ws)))
+    (append_assoc t.counts (map count_of ws) (count_of w ∷ [])
+    ∙ ap (λ l. t.counts ++ l) (sym (parts_pushed count_of w ws))))
+    (steps_then (with_whole_vouchers ws) (with_whole_voucher w) a b c p q)
 
-pub totals_none : (a : State) → IsTrue a.in_transaction → MakesRows (with_totals []) a a
-totals_none a inside = steps_none a inside
+pub sessions_none : (a : State) → IsTrue a.in_transaction → MakesRows (with_whole_sessions []) a a
+sessions_none a inside = steps_none a inside
 
-abbrev put : List TotalRow → TotalRow → List TotalRow
-put rows m = put_by (λ (x : TotalRow). x.number) m rows
+abbrev put_session : List SessionRow → SessionRow → List SessionRow
+put_session rows s = put_by (λ (x : SessionRow). x.number) s rows
 
-pub totals_then : (ms : List TotalRow) (m : TotalRow) (a b c : State) → MakesRows (with_totals ms) a b
-    → MakesRows (with_total m) b c → MakesRows (with_totals (ms ++ m ∷ [])) a c
-totals_then ms m a b c p q =
-    steps_same _ (with_totals (ms ++ m ∷ [])) a c
-    (λ t. ap (λ rows. record t { totals = rows }) (sym (fold-append put t.totals ms (m ∷ []))))
-    (steps_then (with_totals ms) (with_total m) a b c p q)
+abbrev put_total : List TotalRow → TotalRow → List TotalRow
+put_total rows m = put_by (λ (x : TotalRow). x.number) m rows
 
--- ---- totals in the order of their numbers
-
--- the numbers rise from this one on
-abbrev RisesFrom : ℕ → List TotalRow → Type 0
-RisesFrom low [] = Unit {0}
-RisesFrom low (m ∷ ms) = (low ≤ m.number) × RisesFrom (m.number + 1) ms
-
-abbrev AreBelow : ℕ → List TotalRow → Type 0
-AreBelow limit rows = AllByRecursion (λ (x : TotalRow). x.number < limit) rows
-
-less : (a b : ℕ) → a < b → value_cmp (number a) (number b) ≡ Less
-less a b low = value_cmp-Int _ _ ∙ grind (arith, ints, nat_tests)
-
-put_last : (limit : ℕ) (m : TotalRow) (rows : List TotalRow) → limit ≤ m.number → AreBelow limit rows
-    → put rows m ≡ rows ++ m ∷ []
-put_last limit m [] low below = refl
-put_last limit m (x ∷ rows) low below =
-    let first : x.number < m.number = omega (arith, below.0) in
-    rw (less x.number m.number first) (ap (λ l. x ∷ l) (put_last limit m rows low below.1))
-
-below_next : (limit : ℕ) (m : TotalRow) (rows : List TotalRow) → limit ≤ m.number → AreBelow limit rows
-    → AreBelow (m.number + 1) (rows ++ m ∷ [])
-below_next limit m [] low below = (omega arith, tt)
-below_next limit m (x ∷ rows) low below = (omega (arith, below.0), below_next limit m rows low below.1)
-
-put_all : (limit : ℕ) (ms rows : List TotalRow) → RisesFrom limit ms → AreBelow limit rows
-    → fold put rows ms ≡ rows ++ ms
-put_all limit [] rows rises below = sym (append-nil rows)
-put_all limit (m ∷ ms) rows rises below =
-    ap (λ l. fold put l ms) (put_last limit m rows rises.0 below)
-    ∙ put_all (m.number + 1) ms (rows ++ m ∷ []) rises.1 (below_next limit m rows rises.0 below)
-    ∙ append_assoc rows (m ∷ []) ms
-
-abbrev numbers : List Total → List ℕ
-numbers totals = map (λ (m : Total). m.number) totals
-
-rises_from : (low : ℕ) (m : Total) (ms : List Total) → low ≤ m.number
-    → IsStrictlyIncreasing (numbers (m ∷ ms)) → RisesFrom low (totals_read (m ∷ ms))
-rises_from low m [] above rise = (above, tt)
-rises_from low m (n ∷ ms) above rise =
-    let first : m.number < n.number = rise 0 (omega arith) in (
-      above,
-      rises_from (m.number + 1) n ms (omega arith) (λ k within. let e : suc k + 1 ≡ suc (k + 1) =
-          omega arith in subst (λ i. get_or (numbers (n ∷ ms)) k 0 < get_or (numbers (m ∷ n ∷ ms)) i 0) e
-          (rise (suc k) (omega arith))),
-    )
-
-rises : (totals : List Total) → Rise totals → RisesFrom 0 (totals_read totals)
-rises [] rise = tt
-rises (m ∷ ms) rise = rises_from 0 m ms (omega arith) rise
+pub sessions_then : (ws : List WholeSession) (w : WholeSession) (a b c : State)
+    → MakesRows (with_whole_sessions ws) a b → MakesRows (with_whole_session w) b c
+    → MakesRows (with_whole_sessions (ws ++ w ∷ [])) a c
+sessions_then ws w a b c p q =
+    let row = λ (x : WholeSession). x.row in
+    steps_same _ (with_whole_sessions (ws ++ w ∷ [])) a c
+    (λ t. ap₂ (λ ss ms. record t { sessions = ss; totals = ms })
+    (sym (fold-append put_session t.sessions (map row ws) (w.row ∷ []))
+    ∙ ap (fold put_session t.sessions) (sym (parts_pushed row w ws)))
+    (sym (fold-append put_total t.totals (map total_of ws) (total_of w ∷ []))
+    ∙ ap (fold put_total t.totals) (sym (parts_pushed total_of w ws))))
+    (steps_then (with_whole_sessions ws) (with_whole_session w) a b c p q)
 
 -- ---- what the steps of a migration come to
 
--- from schema version 1, with counters in the order of their keys
-pub brought_first : (counts : List CountValue) (totals : List Total) → Rise totals → (t : Contents)
-    → after_migration First counts totals t ≡ with_schema_version this_schema_version
-    (record t { counts = counts_read counts; totals = totals_read totals; requests = [] })
-brought_first counts totals rise t =
-    ap (λ rows. with_schema_version this_schema_version
-    (record t { counts = counts_read counts; totals = rows; requests = [] }))
-    (put_all 0 (totals_read totals) [] (rises totals rise) tt)
+-- the numbers of the sessions rise, and so those of their totals
+numbers_rise : (t : Contents) (ss : List SessionValue) → map session_read ss ≡ t.sessions
+    → RisesFrom (λ (x : SessionRow). x.number) 0 t.sessions → RisesFrom (λ (s : SessionValue). s.number) 0 ss
+numbers_rise t ss are rise = rises_of_wholes (λ (x : SessionRow). x.number) session_read 0 ss
+    (subst (RisesFrom (λ (x : SessionRow). x.number) 0) (sym are) rise)
 
--- from a later one, with none
-pub brought_later : (from : OldSchema) (t : Contents)
-    → after_migration from [] [] t ≡ with_schema_version this_schema_version (with_empty_tables from t)
-brought_later from t =
-    ap (λ rows. with_schema_version this_schema_version (record (with_empty_tables from t) { counts = rows }))
-    (append-nil (with_empty_tables from t).counts)
+pub brought : (from : OldSchema) (vs : List VoucherValue) (ss : List SessionValue) (t : Contents)
+    → AreCountedOf from t vs → AreTotaledOf from t ss
+    → RisesFrom (λ (x : SessionRow). x.number) 0 t.sessions
+    → after_migration from vs ss t ≡ migrated_rows from t
+brought from vs ss t counted totaled rise =
+    let numbers = numbers_rise t ss totaled.0 rise in
+    let rows_are = map-map (λ (w : WholeSession). w.row) whole_session_read ss in
+    let totals_are = map-map total_of whole_session_read ss in
+    let in_rows = put_all (λ (x : SessionRow). x.number) 0 (map session_read ss) []
+    (rises_of_parts (λ (x : SessionRow). x.number) session_read 0 ss numbers) tt in
+    let in_totals = put_all (λ (x : TotalRow). x.number) 0 (map session_total ss) []
+    (rises_of_parts (λ (x : TotalRow). x.number) session_total 0 ss numbers) tt in
+    let vouchers = rows_of_read vs ∙ counted.0 in
+    let counts = counts_of_read vs ∙ counted.1 in
+    let sessions = ap (fold put_session []) rows_are ∙ in_rows ∙ totaled.0 in
+    let totals = ap (fold put_total []) totals_are ∙ in_totals ∙ totaled.1 in
+    λ i. with_schema_version this_schema_version (record t {
+      vouchers = vouchers i;
+      counts = counts i;
+      sessions = sessions i;
+      totals = totals i;
+      requests = requests_after from t;
+    })

@@ -1,24 +1,27 @@
--- The result of each SELECT with a LIMIT, by the rows that the tables hold.
-use Rattle.portal_tables_rows.proofs.Common.{◌≡◌, ◌<◌, ℕ, List, [], ◌∷◌, ◌++◌, Bool, map, length}
+-- The result of each SELECT with a LIMIT, and of that of one redemption, by the rows that the tables hold.
+use Rattle.portal_tables_rows.proofs.Common.{◌≡◌, ◌<◌, ℕ, List, [], ◌∷◌, ◌++◌, Bool, map, filter, length}
 use Rattle.portal_tables_rows.proofs.Common.{take}
 use Rattle.portal_tables_rows.proofs.Common.{true, false, ◌&&◌, ◌||◌, refl, sym, ap, ap₂, subst, ◌∙◌, lit<}
-use Rattle.portal_tables_rows.proofs.Common.{nat_le, nat_cmp, is_ge, is_le}
+use Rattle.portal_tables_rows.proofs.Common.{bytes_eq, nat_le, nat_cmp, is_ge, is_le, Equal, IsPermutation}
 use Rattle.portal_tables_rows.proofs.Common.{Some, arith}
 use Rattle.portal_tables_rows.proofs.Common.{Ordering, Key, then-Equal, value_cmp-Text, Text, Row, column}
 use Rattle.portal_tables_rows.proofs.Common.{value_cmp, Schema, Table, Term, State, Shown, understood}
-use Rattle.portal_tables_rows.proofs.Common.{means_simple, number, by_column, fields}
-use Rattle.portal_tables_rows.proofs.Common.{IsSelection, first_selected}
-use Rattle.portal_tables_rows.proofs.Common.{field_at, orders_by, by, passes, keys_of}
-use Rattle.portal_tables_rows.proofs.Common.{VoucherRow, vouchers, batches, Contents, voucher_cells}
+use Rattle.portal_tables_rows.proofs.Common.{means_simple, key_tests, number, has_key, by_column, fields}
+use Rattle.portal_tables_rows.proofs.Common.{IsSelection, IsPlain, text_test, first_selected, selected}
+use Rattle.portal_tables_rows.proofs.Common.{field_at, orders_by, orders_down, by, passes, keys_of}
+use Rattle.portal_tables_rows.proofs.Common.{vouchers, batches, Contents, WholeVoucher, whole_voucher_cells}
 use Rattle.portal_tables_rows.proofs.Common.{batch_cells, Holds, HasTables, ListsAs, IsSimple, Ge, Le, Binary}
-use Rattle.portal_tables_rows.proofs.Cells.{vouchers_in, batches_in}
+use Rattle.portal_tables_rows.proofs.Cells.{vouchers_in, batches_in, grants_in}
 use Rattle.portal_tables_rows.proofs.Listing.{number_order, cells_listed}
-use Rattle.portal_tables_rows.specs.Lists.{is_between, is_behind, by_code}
+use Rattle.portal_tables_rows.specs.Contents.{grant_cells}
+use Rattle.portal_tables_rows.specs.Lists.{is_between, is_behind, by_code, by_newest}
 use Rattle.portal_tables_sql.proofs.PageTexts as texts
 use Rattle.portal_tables_sql.proofs.SelectTexts.{voucher_columns, batch_columns}
 use Rattle.portal_tables_sql.proofs.TableLemmas.{always}
+use Rattle.portal_tables_sql.specs.Tables.{grants}
 use Rattle.portal_tables_sql.specs.declared.our_tables.OurTable.TheVariants as our
 use Rattle.portal_model.specs.Batches.{by_issue}
+use Rattle.portal_model.specs.Rows.{GrantRow}
 use Rattle.portal_model.specs.declared.record.Batch.{Batch}
 use Rattle.std.specs.Ordering.{ordering_then, is_lt}
 use Rattle.std.specs.Prelude.{nat_lt}
@@ -87,9 +90,10 @@ between_tests table low high within r =
     ap (λ v. sql_between v (Text low) (Text high)) (sym (field_at table 0 r within))
 
 pub between_rows_are : (old new : State) (low high : List ℕ) (rows : List Row)
-    → Shown texts.between_text (Text low ∷ Text high ∷ []) old new rows → (t : Contents) → Holds old.now t
-    → (all : List Row) × ListsAs voucher_cells (λ v. is_between low high v.code) by_code t.vouchers all
-    × (rows ≡ take 51 all)
+    → Shown texts.between_text (Text low ∷ Text high ∷ []) old new rows → (t : Contents)
+    (h : Holds old.now t) → (all : List Row)
+    × ListsAs whole_voucher_cells (λ w. is_between low high w.row.code) (λ a b. by_code a.row b.row)
+    (h.store our.Vouchers (always _, tt)).whole all × (rows ≡ take 51 all)
 between_rows_are old new low high rows shown t h =
     let place = (h.places our.Vouchers) in
     let table = vouchers place.tree in
@@ -98,19 +102,20 @@ between_rows_are old new low high rows shown t h =
     let it = first_selected texts.between_text table (texts.between_terms table) _ params old new
     voucher_columns test (between_tests table low high (lit< tt)) (by_column 0)
     (orders_by table 0 params (lit< tt)) 51 (texts.between_means old.now.schema place.at place.tree
-    (h.tables_exist.tables our.Vouchers (always _)).exists) rows shown in
+    (h.tables_exist.tables our.Vouchers (always _, tt)).exists) rows shown in
     let all = subst (λ xs. IsSelection test (by_column 0) xs it.0)
-    (vouchers_in old.now.trees place.tree t.vouchers (h.store our.Vouchers (always _))) it.1 in (
+    (vouchers_in old.now.trees place.tree _ (h.store our.Vouchers (always _, tt)).stored) it.1 in (
       it.0,
-      cells_listed voucher_cells (λ (v : VoucherRow). is_between low high v.code) by_code t.vouchers test
-          (by_column 0) (λ v. between_is v.code low high) (λ a b. value_cmp-Text a.code b.code) it.0 all,
+      cells_listed whole_voucher_cells (λ (w : WholeVoucher). is_between low high w.row.code)
+          (λ a b. by_code a.row b.row) (h.store our.Vouchers (always _, tt)).whole test (by_column 0)
+          (λ w. between_is w.row.code low high) (λ a b. value_cmp-Text a.row.code b.row.code) it.0 all,
       it.2,
     )
 
 pub between_simple : (schema : Schema) → HasTables schema → IsSimple (understood schema texts.between_text)
 between_simple schema h = let place = (h.0 our.Vouchers) in
     means_simple schema texts.between_text _ _
-    (texts.between_means schema place.at place.tree (h.1.tables our.Vouchers (always _)).exists)
+    (texts.between_means schema place.at place.tree (h.1.tables our.Vouchers (always _, tt)).exists)
 
 -- ---- batches behind a place in their list
 
@@ -149,9 +154,9 @@ behind_rows_are old new at id rows shown t h =
     let it = first_selected texts.behind_text table (texts.behind_terms table) _ params old new
     batch_columns test (behind_tests table at id (lit< tt)) (down_columns 2 0)
     (orders_down_two table 2 0 params (lit< tt) (lit< tt)) 21 (texts.behind_means old.now.schema place.at
-    place.tree (h.tables_exist.tables our.Batches (always _)).exists) rows shown in
+    place.tree (h.tables_exist.tables our.Batches (always _, tt)).exists) rows shown in
     let all = subst (λ xs. IsSelection test (down_columns 2 0) xs it.0)
-    (batches_in old.now.trees place.tree t.batches (h.store our.Batches (always _))) it.1 in (
+    (batches_in old.now.trees place.tree t.batches (h.store our.Batches (always _, tt))) it.1 in (
       it.0,
       cells_listed batch_cells (is_behind at id) by_issue t.batches test (down_columns 2 0)
           (λ b. behind_is b at id) (λ a b. ap₂ ordering_then (number_order b.issued a.issued)
@@ -162,4 +167,50 @@ behind_rows_are old new at id rows shown t h =
 pub behind_simple : (schema : Schema) → HasTables schema → IsSimple (understood schema texts.behind_text)
 behind_simple schema h = let place = (h.0 our.Batches) in
     means_simple schema texts.behind_text _ _
-    (texts.behind_means schema place.at place.tree (h.1.tables our.Batches (always _)).exists)
+    (texts.behind_means schema place.at place.tree (h.1.tables our.Batches (always _, tt)).exists)
+
+-- ---- redemptions
+
+pub grant_plain : (schema : Schema) → HasTables schema → IsPlain (understood schema texts.grant_text)
+grant_plain schema h = let place = (h.0 our.Grants) in
+    (texts.grant_means schema place.at place.tree (h.1.tables our.Grants (always _, tt)).exists).plain
+
+pub grant_rows_are : (old new : State) (id : ℕ) (rows : List Row)
+    → Shown texts.grant_text (number id ∷ []) old new rows → (t : Contents) → Holds old.now t
+    → IsPermutation (filter (has_key 0 (number id)) (map grant_cells t.grants)) rows
+grant_rows_are old new id rows shown t h =
+    let place = (h.places our.Grants) in
+    let table = grants place.tree in
+    let it = selected texts.grant_text table _ [] (number id ∷ []) old new texts.grant_columns
+    (has_key 0 (number id)) (key_tests table 0 (number id) [] (lit< tt) refl) (λ _ _. Equal) (λ _ _. refl)
+    (texts.grant_means old.now.schema place.at place.tree
+    (h.tables_exist.tables our.Grants (always _, tt)).exists) rows shown in
+    subst (λ xs. IsPermutation (filter (has_key 0 (number id)) xs) rows)
+    (grants_in old.now.trees place.tree t.grants (h.store our.Grants (always _, tt))) it.same
+
+pub last_grants_rows_are : (old new : State) (code : List ℕ) (rows : List Row)
+    → Shown texts.last_grants_text (Text code ∷ []) old new rows → (t : Contents) → Holds old.now t
+    → (all : List Row) × ListsAs grant_cells (λ g. bytes_eq code g.code) by_newest t.grants all
+    × (rows ≡ take 101 all)
+last_grants_rows_are old new code rows shown t h =
+    let place = (h.places our.Grants) in
+    let table = grants place.tree in
+    let down : Row → Row → Ordering = λ a b. by_column 0 b a in
+    let it = first_selected texts.last_grants_text table _ _ (Text code ∷ []) old new texts.grant_columns
+    (has_key 1 (Text code)) (key_tests table 1 (Text code) [] (lit< tt) refl) down
+    (orders_down table 0 (Text code ∷ []) (lit< tt)) 101 (texts.last_grants_means old.now.schema place.at
+    place.tree (h.tables_exist.tables our.Grants (always _, tt)).exists) rows shown in
+    let all = subst (λ xs. IsSelection (has_key 1 (Text code)) down xs it.0)
+    (grants_in old.now.trees place.tree t.grants (h.store our.Grants (always _, tt))) it.1 in (
+      it.0,
+      cells_listed grant_cells (λ (g : GrantRow). bytes_eq code g.code) by_newest t.grants
+          (has_key 1 (Text code)) down (λ g. text_test g.code code)
+          (λ a b. number_order b.number a.number) it.0 all,
+      it.2,
+    )
+
+pub last_grants_simple : (schema : Schema) → HasTables schema
+    → IsSimple (understood schema texts.last_grants_text)
+last_grants_simple schema h = let place = (h.0 our.Grants) in
+    means_simple schema texts.last_grants_text _ _
+    (texts.last_grants_means schema place.at place.tree (h.1.tables our.Grants (always _, tt)).exists)

@@ -1,20 +1,19 @@
 -- The result of each SELECT, by the rows that the tables hold.
 use Rattle.portal_tables_rows.proofs.Common.{◌≡◌, ℕ, List, [], ◌∷◌, map, filter, take, refl, subst, Equal}
-use Rattle.portal_tables_rows.proofs.Common.{lit<, lit≤, IsPermutation, Text, Row, Schema, understood, State}
+use Rattle.portal_tables_rows.proofs.Common.{lit<, IsPermutation, Text, Row, Schema, understood, State}
 use Rattle.portal_tables_rows.proofs.Common.{Shown, IsPlain, number, has_key, by_column, IsSelection}
 use Rattle.portal_tables_rows.proofs.Common.{selected, first_selected, key_tests, literal_tests, orders_down}
-use Rattle.portal_tables_rows.proofs.Common.{head, plans, batches, vouchers, sessions, counts, totals}
-use Rattle.portal_tables_rows.proofs.Common.{Contents, head_cells, plan_cells, batch_cells, voucher_cells}
-use Rattle.portal_tables_rows.proofs.Common.{session_cells, count_cells, total_cells, Holds, HasTables}
+use Rattle.portal_tables_rows.proofs.Common.{head, plans, batches, vouchers, sessions, Contents, head_cells}
+use Rattle.portal_tables_rows.proofs.Common.{plan_cells, batch_cells, Holds, HasTables, whole_voucher_cells}
+use Rattle.portal_tables_rows.proofs.Common.{whole_session_cells}
 use Rattle.portal_tables_rows.proofs.Cells.{heads_in, plans_in, batches_in, vouchers_in, sessions_in}
-use Rattle.portal_tables_rows.proofs.Cells.{counts_in, totals_in}
 use Rattle.portal_tables_sql.proofs.SelectTexts as texts
 use Rattle.portal_tables_sql.specs.declared.our_tables.OurTable.TheVariants as our
 use Rattle.portal_tables_sql.proofs.TableLemmas.{always}
 
 pub head_plain : (schema : Schema) → HasTables schema → IsPlain (understood schema texts.head_text)
 head_plain schema h = let place = (h.0 our.Head) in
-    (texts.head_means schema place.at place.tree (h.1.tables our.Head (always _)).exists).plain
+    (texts.head_means schema place.at place.tree (h.1.tables our.Head (always _, tt)).exists).plain
 
 pub head_rows_are : (old new : State) (rows : List Row)
     → Shown texts.head_text [] old new rows → (t : Contents) → Holds old.now t
@@ -24,13 +23,13 @@ head_rows_are old new rows shown t h =
     let table = head place.tree in
     let it = selected texts.head_text table _ [] [] old new texts.head_columns (has_key 0 (number 1))
     (literal_tests table 0 (number 1) [] (lit< tt) refl) (λ _ _. Equal) (λ _ _. refl) (texts.head_means
-    old.now.schema place.at place.tree (h.tables_exist.tables our.Head (always _)).exists) rows shown in
+    old.now.schema place.at place.tree (h.tables_exist.tables our.Head (always _, tt)).exists) rows shown in
     subst (λ xs. IsPermutation (filter (has_key 0 (number 1)) xs) rows)
-    (heads_in old.now.trees place.tree t.heads (h.store our.Head (always _))) it.same
+    (heads_in old.now.trees place.tree t.heads (h.store our.Head (always _, tt))) it.same
 
 pub plan_plain : (schema : Schema) → HasTables schema → IsPlain (understood schema texts.plan_text)
 plan_plain schema h = let place = (h.0 our.Plans) in
-    (texts.plan_means schema place.at place.tree (h.1.tables our.Plans (always _)).exists).plain
+    (texts.plan_means schema place.at place.tree (h.1.tables our.Plans (always _, tt)).exists).plain
 
 pub plan_rows_are : (old new : State) (id : List ℕ) (rows : List Row)
     → Shown texts.plan_text (Text id ∷ []) old new rows → (t : Contents) → Holds old.now t
@@ -40,14 +39,15 @@ plan_rows_are old new id rows shown t h =
     let table = plans place.tree in
     let it = selected texts.plan_text table _ [] (Text id ∷ []) old new texts.plan_columns
     (has_key 0 (Text id)) (key_tests table 0 (Text id) [] (lit< tt) refl) (λ _ _. Equal) (λ _ _. refl)
-    (texts.plan_means old.now.schema place.at place.tree (h.tables_exist.tables our.Plans (always _)).exists)
+    (texts.plan_means old.now.schema place.at place.tree (h.tables_exist.tables our.Plans
+    (always _, tt)).exists)
     rows shown in
     subst (λ xs. IsPermutation (filter (has_key 0 (Text id)) xs) rows)
-    (plans_in old.now.trees place.tree t.plans (h.store our.Plans (always _))) it.same
+    (plans_in old.now.trees place.tree t.plans (h.store our.Plans (always _, tt))) it.same
 
 pub batch_plain : (schema : Schema) → HasTables schema → IsPlain (understood schema texts.batch_text)
 batch_plain schema h = let place = (h.0 our.Batches) in
-    (texts.batch_means schema place.at place.tree (h.1.tables our.Batches (always _)).exists).plain
+    (texts.batch_means schema place.at place.tree (h.1.tables our.Batches (always _, tt)).exists).plain
 
 pub batch_rows_are : (old new : State) (id : List ℕ) (rows : List Row)
     → Shown texts.batch_text (Text id ∷ []) old new rows → (t : Contents) → Holds old.now t
@@ -57,96 +57,66 @@ batch_rows_are old new id rows shown t h =
     let table = batches place.tree in
     let it = selected texts.batch_text table _ [] (Text id ∷ []) old new texts.batch_columns (has_key 0
     (Text id)) (key_tests table 0 (Text id) [] (lit< tt) refl) (λ _ _. Equal) (λ _ _. refl) (texts.batch_means
-    old.now.schema place.at place.tree (h.tables_exist.tables our.Batches (always _)).exists) rows shown in
+    old.now.schema place.at place.tree (h.tables_exist.tables our.Batches (always _, tt)).exists) rows
+    shown in
     subst (λ xs. IsPermutation (filter (has_key 0 (Text id)) xs) rows)
-    (batches_in old.now.trees place.tree t.batches (h.store our.Batches (always _))) it.same
+    (batches_in old.now.trees place.tree t.batches (h.store our.Batches (always _, tt))) it.same
 
 pub voucher_plain : (schema : Schema) → HasTables schema → IsPlain (understood schema texts.voucher_text)
 voucher_plain schema h = let place = (h.0 our.Vouchers) in
-    (texts.voucher_means schema place.at place.tree (h.1.tables our.Vouchers (always _)).exists).plain
+    (texts.voucher_means schema place.at place.tree (h.1.tables our.Vouchers (always _, tt)).exists).plain
 
 pub voucher_rows_are : (old new : State) (code : List ℕ) (rows : List Row)
-    → Shown texts.voucher_text (Text code ∷ []) old new rows → (t : Contents) → Holds old.now t
-    → IsPermutation (filter (has_key 0 (Text code)) (map voucher_cells t.vouchers)) rows
+    → Shown texts.voucher_text (Text code ∷ []) old new rows → (t : Contents) (h : Holds old.now t)
+    → IsPermutation (filter (has_key 0 (Text code))
+    (map whole_voucher_cells (h.store our.Vouchers (always _, tt)).whole)) rows
 voucher_rows_are old new code rows shown t h =
     let place = (h.places our.Vouchers) in
     let table = vouchers place.tree in
     let it = selected texts.voucher_text table _ [] (Text code ∷ []) old new texts.voucher_columns
     (has_key 0 (Text code)) (key_tests table 0 (Text code) [] (lit< tt) refl)
     (λ _ _. Equal) (λ _ _. refl) (texts.voucher_means old.now.schema place.at place.tree
-    (h.tables_exist.tables our.Vouchers (always _)).exists) rows shown in
+    (h.tables_exist.tables our.Vouchers (always _, tt)).exists) rows shown in
     subst (λ xs. IsPermutation (filter (has_key 0 (Text code)) xs) rows)
-    (vouchers_in old.now.trees place.tree t.vouchers (h.store our.Vouchers (always _))) it.same
+    (vouchers_in old.now.trees place.tree _ (h.store our.Vouchers (always _, tt)).stored) it.same
 
 pub session_plain : (schema : Schema) → HasTables schema → IsPlain (understood schema texts.session_text)
 session_plain schema h = let place = (h.0 our.Sessions) in
-    (texts.session_means schema place.at place.tree (h.1.tables our.Sessions (always _)).exists).plain
+    (texts.session_means schema place.at place.tree (h.1.tables our.Sessions (always _, tt)).exists).plain
 
 pub session_rows_are : (old new : State) (id : ℕ) (rows : List Row)
-    → Shown texts.session_text (number id ∷ []) old new rows → (t : Contents) → Holds old.now t
-    → IsPermutation (filter (has_key 0 (number id)) (map session_cells t.sessions)) rows
+    → Shown texts.session_text (number id ∷ []) old new rows → (t : Contents) (h : Holds old.now t)
+    → IsPermutation (filter (has_key 0 (number id))
+    (map whole_session_cells (h.store our.Sessions (always _, tt)).whole)) rows
 session_rows_are old new id rows shown t h =
     let place = (h.places our.Sessions) in
     let table = sessions place.tree in
     let it = selected texts.session_text table _ [] (number id ∷ []) old new texts.session_columns
     (has_key 0 (number id)) (key_tests table 0 (number id) [] (lit< tt) refl)
     (λ _ _. Equal) (λ _ _. refl) (texts.session_means old.now.schema place.at place.tree
-    (h.tables_exist.tables our.Sessions (always _)).exists) rows shown in
+    (h.tables_exist.tables our.Sessions (always _, tt)).exists) rows shown in
     subst (λ xs. IsPermutation (filter (has_key 0 (number id)) xs) rows)
-    (sessions_in old.now.trees place.tree t.sessions (h.store our.Sessions (always _))) it.same
-
-pub count_plain : (schema : Schema) → HasTables schema → IsPlain (understood schema texts.count_text)
-count_plain schema h = let place = (h.0 our.Counts) in
-    (texts.count_means schema place.at place.tree (h.1.tables our.Counts (lit≤ tt)).exists).plain
-
-pub count_rows_are : (old new : State) (code : List ℕ) (rows : List Row)
-    → Shown texts.count_text (Text code ∷ []) old new rows → (t : Contents) → Holds old.now t
-    → IsPermutation (filter (has_key 0 (Text code)) (map count_cells t.counts)) rows
-count_rows_are old new code rows shown t h =
-    let place = (h.places our.Counts) in
-    let table = counts place.tree in
-    let it = selected texts.count_text table _ [] (Text code ∷ []) old new texts.count_columns
-    (has_key 0 (Text code)) (key_tests table 0 (Text code) [] (lit< tt) refl) (λ _ _. Equal) (λ _ _. refl)
-    (texts.count_means old.now.schema place.at place.tree (h.tables_exist.tables our.Counts (lit≤ tt)).exists)
-    rows shown in
-    subst (λ xs. IsPermutation (filter (has_key 0 (Text code)) xs) rows)
-    (counts_in old.now.trees place.tree t.counts (h.store our.Counts (lit≤ tt))) it.same
-
-pub total_plain : (schema : Schema) → HasTables schema → IsPlain (understood schema texts.total_text)
-total_plain schema h = let place = (h.0 our.Totals) in
-    (texts.total_means schema place.at place.tree (h.1.tables our.Totals (lit≤ tt)).exists).plain
-
-pub total_rows_are : (old new : State) (id : ℕ) (rows : List Row)
-    → Shown texts.total_text (number id ∷ []) old new rows → (t : Contents) → Holds old.now t
-    → IsPermutation (filter (has_key 0 (number id)) (map total_cells t.totals)) rows
-total_rows_are old new id rows shown t h =
-    let place = (h.places our.Totals) in
-    let table = totals place.tree in
-    let it = selected texts.total_text table _ [] (number id ∷ []) old new texts.total_columns
-    (has_key 0 (number id)) (key_tests table 0 (number id) [] (lit< tt) refl) (λ _ _. Equal) (λ _ _. refl)
-    (texts.total_means old.now.schema place.at place.tree (h.tables_exist.tables our.Totals (lit≤ tt)).exists)
-    rows shown in
-    subst (λ xs. IsPermutation (filter (has_key 0 (number id)) xs) rows)
-    (totals_in old.now.trees place.tree t.totals (h.store our.Totals (lit≤ tt))) it.same
+    (sessions_in old.now.trees place.tree _ (h.store our.Sessions (always _, tt)).stored) it.same
 
 pub last_session_plain : (schema : Schema) → HasTables schema
     → IsPlain (understood schema texts.last_session_text)
 last_session_plain schema h = let place = (h.0 our.Sessions) in
-    (texts.last_session_means schema place.at place.tree (h.1.tables our.Sessions (always _)).exists).plain
+    (texts.last_session_means schema place.at place.tree (h.1.tables our.Sessions
+    (always _, tt)).exists).plain
 
 pub last_session_rows_are : (old new : State) (device : List ℕ) (rows : List Row)
-    → Shown texts.last_session_text (Text device ∷ []) old new rows → (t : Contents) → Holds old.now t
+    → Shown texts.last_session_text (Text device ∷ []) old new rows → (t : Contents) (h : Holds old.now t)
     → (all : List Row) × IsSelection (has_key 1 (Text device)) (λ a b. by_column 0 b a)
-    (map session_cells t.sessions) all × (rows ≡ take 1 all)
+    (map whole_session_cells (h.store our.Sessions (always _, tt)).whole) all × (rows ≡ take 1 all)
 last_session_rows_are old new device rows shown t h =
     let place = (h.places our.Sessions) in
     let table = sessions place.tree in
     let it = first_selected texts.last_session_text table _ _ (Text device ∷ []) old new texts.session_columns
     (has_key 1 (Text device)) (key_tests table 1 (Text device) [] (lit< tt) refl) (λ a b. by_column 0 b a)
     (orders_down table 0 (Text device ∷ []) (lit< tt)) 1 (texts.last_session_means old.now.schema place.at
-    place.tree (h.tables_exist.tables our.Sessions (always _)).exists) rows shown in (
+    place.tree (h.tables_exist.tables our.Sessions (always _, tt)).exists) rows shown in (
       it.0,
       subst (λ xs. IsSelection (has_key 1 (Text device)) (λ a b. by_column 0 b a) xs it.0)
-          (sessions_in old.now.trees place.tree t.sessions (h.store our.Sessions (always _))) it.1,
+          (sessions_in old.now.trees place.tree _ (h.store our.Sessions (always _, tt)).stored) it.1,
       it.2,
     )

@@ -20,7 +20,7 @@ use Rattle.portal_tables_sql.specs.declared.our_tables.OurTable.TheVariants as o
 
 pub request_plain : (schema : Schema) → HasTables schema → IsPlain (understood schema texts.request_text)
 request_plain schema h = let place = (h.0 our.Requests) in
-    (texts.request_means schema place.at place.tree (h.1.tables our.Requests (lit≤ tt)).exists).plain
+    (texts.request_means schema place.at place.tree (h.1.tables our.Requests (lit≤ tt, tt)).exists).plain
 
 pub request_rows_are : (old new : State) (caller id : List ℕ) (rows : List Row)
     → Shown texts.request_text (Text caller ∷ Text id ∷ []) old new rows → (t : Contents) → Holds old.now t
@@ -32,9 +32,9 @@ request_rows_are old new caller id rows shown t h =
     (has_keys 0 (Text caller) 1 (Text id)) (pair_tests table 0 1 (Text caller) (Text id) [] (lit< tt)
     (lit< tt) refl refl) (λ _ _. Equal) (λ _ _. refl)
     (texts.request_means old.now.schema place.at place.tree
-    (h.tables_exist.tables our.Requests (lit≤ tt)).exists) rows shown in
+    (h.tables_exist.tables our.Requests (lit≤ tt, tt)).exists) rows shown in
     subst (λ xs. IsPermutation (filter (has_keys 0 (Text caller) 1 (Text id)) xs) rows)
-    (requests_in old.now.trees place.tree t.requests (h.store our.Requests (lit≤ tt))) it.same
+    (requests_in old.now.trees place.tree t.requests (h.store our.Requests (lit≤ tt, tt))) it.same
 
 pub reads_request : {S : Type 0} (g : Ghosts S) {old new : Held S} (caller id : List ℕ)
     {result : Result (Option StoredRequest) RowError}
@@ -76,7 +76,7 @@ all_pass (r ∷ rows) = ap (λ xs. r ∷ xs) (all_pass rows)
 pub keys_simple : (schema : Schema) → HasTables schema → IsSimple (understood schema texts.keys_text)
 keys_simple schema h = let place = (h.0 our.Requests) in
     means_simple schema texts.keys_text _ _
-    (texts.keys_means schema place.at place.tree (h.1.tables our.Requests (lit≤ tt)).exists)
+    (texts.keys_means schema place.at place.tree (h.1.tables our.Requests (lit≤ tt, tt)).exists)
 
 pub keys_are : (old new : State) (rows : List Row) → Shown texts.keys_text [] old new rows
     → (t : Contents) → Holds old.now t → rows ≡ map key_cells (map key_of t.requests)
@@ -88,9 +88,9 @@ keys_are old new rows shown t h =
     old new (λ _. true) (λ r. refl) two
     (λ r. ap₂ (λ a b. a ∷ b ∷ []) (sym (field_at table 0 r (lit< tt))) (sym (field_at table 1 r (lit< tt))))
     (texts.keys_means old.now.schema place.at place.tree
-    (h.tables_exist.tables our.Requests (lit≤ tt)).exists)
-    (h.store our.Requests (lit≤ tt)).are.rise rows shown
+    (h.tables_exist.tables our.Requests (lit≤ tt, tt)).exists)
+    (h.store our.Requests (lit≤ tt, tt)).are.rise rows shown
     ∙ ap (map two) (all_pass _
-    ∙ requests_in old.now.trees place.tree t.requests (h.store our.Requests (lit≤ tt)))
+    ∙ requests_in old.now.trees place.tree t.requests (h.store our.Requests (lit≤ tt, tt)))
     ∙ map-map two request_cells t.requests
     ∙ sym (map-map key_cells key_of t.requests)

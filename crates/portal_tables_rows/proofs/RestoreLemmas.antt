@@ -1,38 +1,38 @@
 -- The tables are made anew with the rows that were read of them.
-use Rattle.portal_tables_rows.proofs.Common.{◌≡◌, ◌≤◌, ◌<◌, lit≤, ℕ}
-use Rattle.portal_tables_rows.proofs.Common.{◌+◌, List}
-use Rattle.portal_tables_rows.proofs.Common.{[], ◌∷◌, ◌++◌, map, refl, sym, ap, subst, ◌∙◌, arith, ints}
-use Rattle.portal_tables_rows.proofs.Common.{nat_tests, append-nil, append_assoc, Less, AllByRecursion}
-use Rattle.portal_tables_rows.proofs.Common.{Row, Has, State, Database, value_cmp, value_cmp-Int}
-use Rattle.portal_tables_rows.proofs.Common.{number, put_by}
-use Rattle.portal_tables_rows.proofs.Common.{Contents, no_rows, HoldsIn, has_clauses, StoresRows}
+use Rattle.portal_tables_rows.proofs.Common.{◌≡◌, ◌≤◌, ◌<◌, lit≤, ℕ, ◌+◌, List, [], ◌∷◌, ◌++◌, map, fold}
+use Rattle.portal_tables_rows.proofs.Common.{refl}
+use Rattle.portal_tables_rows.proofs.Common.{sym, ap, subst, ◌∙◌, arith, ints, nat_tests, append-nil}
+use Rattle.portal_tables_rows.proofs.Common.{append_assoc, Less, AllByRecursion, Row, Has, State, Database}
+use Rattle.portal_tables_rows.proofs.Common.{value_cmp, value_cmp-Int, number, put_by, all_has}
+use Rattle.portal_tables_rows.proofs.Common.{Contents, no_rows, HoldsIn, StoresRows, Layout, Apart, Together}
+use Rattle.portal_tables_rows.proofs.Common.{IsTableIn, layout_of, copied_tables, with_copied}
 use Rattle.portal_tables_rows.proofs.Common.{AreNamesFree, OldSchema, Rebuilds, version_number}
-use Rattle.portal_tables_rows.proofs.Common.{with_empty_tables, First, Second, Third, Fourth, HeadRow}
-use Rattle.portal_tables_rows.specs.declared.schema_versions.OldSchema.TheVariants.{Fifth}
-use Rattle.portal_tables_rows.proofs.Common.{SessionRow, GrantRow, CountRow, TotalRow, RequestRow, head_cells}
-use Rattle.portal_tables_rows.proofs.Common.{plan_cells, batch_cells, voucher_cells, session_cells}
-use Rattle.portal_tables_rows.proofs.Common.{grant_cells}
-use Rattle.portal_tables_rows.proofs.Common.{count_cells, total_cells, request_cells, head_stored}
-use Rattle.portal_tables_rows.proofs.Common.{session_stored, grant_stored, total_stored}
+use Rattle.portal_tables_rows.proofs.Common.{First, Second, Third, Fourth, Fifth, Sixth, HeadRow}
+use Rattle.portal_tables_rows.proofs.Common.{SessionRow, GrantRow, RequestRow, head_cells}
+use Rattle.portal_tables_rows.proofs.Common.{plan_cells, batch_cells, grant_cells, request_cells, head_stored}
+use Rattle.portal_tables_rows.proofs.Common.{session_stored, grant_stored, WholeSession, whole_session_stored}
 use Rattle.portal_tables_rows.proofs.Common.{tables_of, whole_row, TablePlaces, Trees}
 use Rattle.sqlite.specs.Tree.{IsTable, rowid}
+use Rattle.portal_tables_sql.specs.Copies.{table_copied}
 use Rattle.portal_tables_sql.specs.Stored.{Keeps}
 use Rattle.portal_tables_sql.specs.Tables.{since}
+use Rattle.portal_tables_sql.specs.declared.copied_tables.CopiedTable.{CopiedTable}
+use Rattle.portal_tables_sql.specs.declared.copied_tables.CopiedTable.TheVariants as copied
 use Rattle.portal_tables_sql.specs.declared.our_tables.OurTable.{OurTable}
 use Rattle.portal_tables_sql.specs.declared.our_tables.OurTable.TheVariants as our
 use Rattle.portal_tables_sql.proofs.TableLemmas.{always}
 use Rattle.portal_tables_rows.specs.Copying.{Adds, AddsRow, AddsRows, AddsTables, AreRead, cells_of}
 use Rattle.portal_tables_rows.specs.Copying.{table_read}
 use Rattle.portal_tables_rows.specs.Creation.{AreDistinct, AreStanding, CreatesEmpty, DropsTables}
-use Rattle.portal_tables_rows.specs.Migrations.{first_tables, second_tables, all_tables}
+use Rattle.portal_tables_rows.specs.Holds.{SessionsIn}
+use Rattle.portal_tables_rows.specs.Migrations.{first_tables, second_tables, first_copied}
 use Rattle.portal_tables_rows.specs.declared.copies.WholeTable.{WholeTable}
 use Rattle.portal_tables_rows.proofs.OthersLemmas.{others_then}
-use Rattle.portal_tables_rows.proofs.Common.{all_has}
 
 -- ---- rows in the order in which they were read
 
 -- each is put after those that are there
-module _ {P : Type 0} (x : OurTable) (cells : P → Row) (set : List P → Contents)
+module _ {P : Type 0} (x : CopiedTable) (cells : P → Row) (set : List P → Contents)
     (one : (p : P) (qs : List P) → AddsRow x (cells p) (set qs) (set (qs ++ p ∷ []))) where
   pub rows_added : (ps qs : List P) → AddsRows x (map cells ps) (set qs) (set (qs ++ ps))
   rows_added [] qs = ap set (append-nil qs)
@@ -44,7 +44,7 @@ module _ {P : Type 0} (x : OurTable) (cells : P → Row) (set : List P → Conte
   )
 
 -- the numbers rise from this one on
-abbrev RisesFrom : {P : Type 0} → (P → ℕ) → ℕ → List P → Type 0
+abbrev pub RisesFrom : {P : Type 0} → (P → ℕ) → ℕ → List P → Type 0
 RisesFrom key low [] = Unit {0}
 RisesFrom key low (p ∷ ps) = (low ≤ key p) × RisesFrom key (key p + 1) ps
 
@@ -70,6 +70,26 @@ module _ {P : Type 0} (key : P → ℕ) where
   below_next limit p [] low below = (omega arith, tt)
   below_next limit p (x ∷ rows) low below = (omega (arith, below.0), below_next limit p rows low below.1)
 
+  -- each is put after those that are there
+  pub put_all : (limit : ℕ) (ps rows : List P) → RisesFrom key limit ps → AreBelow key limit rows
+      → fold (λ l p. put_by key p l) rows ps ≡ rows ++ ps
+  put_all limit [] rows rise below = sym (append-nil rows)
+  put_all limit (p ∷ ps) rows rise below =
+      ap (λ l. fold (λ m q. put_by key q m) l ps) (put_last limit p rows rise.0 below)
+      ∙ put_all (key p + 1) ps (rows ++ p ∷ []) rise.1 (below_next limit p rows rise.0 below)
+      ∙ append_assoc rows (p ∷ []) ps
+
+  -- the numbers of parts
+  pub rises_of_parts : {A : Type 0} (part : A → P) (low : ℕ) (xs : List A)
+      → RisesFrom (λ a. key (part a)) low xs → RisesFrom key low (map part xs)
+  rises_of_parts part low [] rise = tt
+  rises_of_parts part low (x ∷ xs) rise = (rise.0, rises_of_parts part (key (part x) + 1) xs rise.1)
+
+  pub rises_of_wholes : {A : Type 0} (part : A → P) (low : ℕ) (xs : List A)
+      → RisesFrom key low (map part xs) → RisesFrom (λ a. key (part a)) low xs
+  rises_of_wholes part low [] rise = tt
+  rises_of_wholes part low (x ∷ xs) rise = (rise.0, rises_of_wholes part (key (part x) + 1) xs rise.1)
+
   -- rowids rise
   module _ (stored : P → Row) (ids : (p : P) → rowid (stored p) ≡ number (key p)) where
     rises_from : (low : ℕ) (p : P) (ps : List P) → low ≤ key p → IsTable (map stored (p ∷ ps))
@@ -83,7 +103,7 @@ module _ {P : Type 0} (key : P → ℕ) where
     rises [] up = tt
     rises (p ∷ ps) up = rises_from 0 p ps (omega arith) up
 
-  module _ (x : OurTable) (cells : P → Row) (set : List P → Contents)
+  module _ (x : CopiedTable) (cells : P → Row) (set : List P → Contents)
       (one : (p : P) (qs : List P) → AddsRow x (cells p) (set qs) (set (put_by key p qs))) where
     pub rows_put : (limit : ℕ) (ps qs : List P) → RisesFrom key limit ps → AreBelow key limit qs
         → AddsRows x (map cells ps) (set qs) (set (qs ++ ps))
@@ -98,12 +118,7 @@ module _ {P : Type 0} (key : P → ℕ) where
 
 -- ---- one table after another
 
--- the rows of three tables, and none of the other six
-abbrev later_rows : List CountRow → List TotalRow → List RequestRow → Contents
-later_rows counts totals requests =
-    record no_rows { counts = counts; totals = totals; requests = requests }
-
-abbrev read_of : List OurTable → Contents → List (OurTable × List Row)
+abbrev read_of : List CopiedTable → Contents → List (CopiedTable × List Row)
 read_of tables t = map (λ x. (x, cells_of x t)) tables
 
 -- what a table with numbers stores rises by them
@@ -116,112 +131,155 @@ stored_rise key stored ids rows ps h =
     whole_is [] = refl
     whole_is (r ∷ rs) = ap (λ l. r ∷ l) (whole_is rs)
 
-module _ (v : ℕ) (places : TablePlaces) (trees : Trees) (t : Contents) (store : StoresRows v places trees t)
-  where
-    -- the six tables of schema version 1
-    first_added : (counts : List CountRow) (totals : List TotalRow) (requests : List RequestRow)
-        → AddsTables (read_of first_tables t) (later_rows counts totals requests)
-        (record t { counts = counts; totals = totals; requests = requests })
-    first_added counts totals requests =
-        let b = later_rows counts totals requests in
-        let b1 : Contents = record b { grants = t.grants } in
-        let b2 : Contents = record b1 { sessions = t.sessions } in
-        let b3 : Contents = record b2 { vouchers = t.vouchers } in
-        let b4 : Contents = record b3 { batches = t.batches } in
-        let b5 : Contents = record b4 { plans = t.plans } in
-        let grants = stored_rise (λ (x : GrantRow). x.number) grant_stored (λ x. refl) _ t.grants
-        (store our.Grants (always v)) in
-        let sessions = stored_rise (λ (x : SessionRow). x.number) session_stored (λ x. refl) _ t.sessions
-        (store our.Sessions (always v)) in
-        let heads = stored_rise (λ (x : HeadRow). x.id) head_stored (λ x. refl) _ t.heads
-        (store our.Head (always v)) in (
-          b1,
-          rows_put (λ (x : GrantRow). x.number) our.Grants grant_cells (λ l. record b { grants = l })
-              (λ p qs. (p, refl, refl)) 0 t.grants [] grants tt,
+-- the numbers of the sessions rise
+sessions_rise : (layout : Layout) (rows : List Row) (t : Contents) → SessionsIn layout rows t
+    → RisesFrom (λ (s : SessionRow). s.number) 0 t.sessions
+sessions_rise (Apart keyed) rows t h =
+    stored_rise (λ (s : SessionRow). s.number) session_stored (λ x. refl) rows t.sessions h
+sessions_rise Together rows t h =
+    subst (RisesFrom (λ (s : SessionRow). s.number) 0) h.their_rows
+    (rises_of_parts (λ (s : SessionRow). s.number) (λ (w : WholeSession). w.row) 0 h.whole
+    (stored_rise (λ (w : WholeSession). w.row.number) whole_session_stored (λ x. refl) rows h.whole h.stored))
+
+pub held_rise : (from : OldSchema) (db : Database) (t : Contents) → HoldsIn (version_number from) [] db t
+    → RisesFrom (λ (s : SessionRow). s.number) 0 t.sessions
+held_rise from db t h =
+    sessions_rise (layout_of (version_number from)) _ t (h.store our.Sessions (always _, tt))
+
+module _ (layout : Layout) (v : ℕ) (places : TablePlaces) (trees : Trees) (t : Contents)
+    (store : StoresRows layout v places trees t) where
+  -- those of schema version 1
+  first_added : (requests : List RequestRow)
+      → AddsTables (read_of first_copied t) (record no_rows { requests = requests })
+      (record t { vouchers = []; counts = []; sessions = []; totals = []; requests = requests })
+  first_added requests =
+      let b : Contents = record no_rows { requests = requests } in
+      let b1 : Contents = record b { grants = t.grants } in
+      let b2 : Contents = record b1 { batches = t.batches } in
+      let b3 : Contents = record b2 { plans = t.plans } in
+      let grants = stored_rise (λ (x : GrantRow). x.number) grant_stored (λ x. refl) _ t.grants
+      (store our.Grants (always v, tt)) in
+      let heads = stored_rise (λ (x : HeadRow). x.id) head_stored (λ x. refl) _ t.heads
+      (store our.Head (always v, tt)) in (
+        b1,
+        rows_put (λ (x : GrantRow). x.number) copied.Grants grant_cells (λ l. record b { grants = l })
+            (λ p qs. (p, refl, refl)) 0 t.grants [] grants tt,
+        (
+          b2,
+          rows_added copied.Batches batch_cells (λ l. record b1 { batches = l }) (λ p qs. (p, refl, refl))
+              t.batches [],
           (
-            b2,
-            rows_put (λ (x : SessionRow). x.number) our.Sessions session_cells
-                (λ l. record b1 { sessions = l })
-                (λ p qs. (p, refl, refl)) 0 t.sessions [] sessions tt,
+            b3,
+            rows_added copied.Plans plan_cells (λ l. record b2 { plans = l }) (λ p qs. (p, refl, refl))
+                t.plans [],
             (
-              b3,
-              rows_added our.Vouchers voucher_cells
-                  (λ l. record b2 { vouchers = l }) (λ p qs. (p, refl, refl))
-                  t.vouchers [],
-              (
-                b4,
-                rows_added our.Batches batch_cells (λ l. record b3 { batches = l }) (λ p qs. (p, refl, refl))
-                    t.batches [],
-                (
-                  b5,
-                  rows_added our.Plans plan_cells (λ l. record b4 { plans = l }) (λ p qs. (p, refl, refl))
-                      t.plans
-                      [],
-                  (
-                    record b5 { heads = t.heads },
-                    rows_put (λ (x : HeadRow). x.id) our.Head head_cells (λ l. record b5 { heads = l })
-                        (λ p qs. (p, refl, refl)) 0 t.heads [] heads tt,
-                    refl,
-                  ),
-                ),
-              ),
+              record b3 { heads = t.heads },
+              rows_put (λ (x : HeadRow). x.id) copied.Head head_cells (λ l. record b3 { heads = l })
+                  (λ p qs. (p, refl, refl)) 0 t.heads [] heads tt,
+              refl,
             ),
           ),
-        )
+        ),
+      )
 
-    -- and the two of schema version 2
-    second_added : 2 ≤ v → (requests : List RequestRow)
-        → AddsTables (read_of second_tables t) (later_rows [] [] requests) (record t { requests = requests })
-    second_added on requests =
-        let totals = stored_rise (λ (x : TotalRow). x.number) total_stored (λ x. refl) _ t.totals
-        (store our.Totals on) in (
-          later_rows [] t.totals requests,
-          rows_put (λ (x : TotalRow). x.number) our.Totals total_cells (λ l. later_rows [] l requests)
-              (λ p qs. (p, refl, refl)) 0 t.totals [] totals tt,
-          (
-            later_rows t.counts t.totals requests,
-            rows_added our.Counts count_cells (λ l. later_rows l t.totals requests) (λ p qs. (p, refl, refl))
-                t.counts [],
-            first_added t.counts t.totals requests,
-          ),
-        )
-
-    -- and that of schema version 3
-    all_added : 2 ≤ v → AddsTables (read_of all_tables t) no_rows t
-    all_added on = (
-      later_rows [] [] t.requests,
-      rows_added our.Requests request_cells (λ l. later_rows [] [] l) (λ p qs. (p, refl, refl)) t.requests [],
-      second_added on t.requests,
-    )
+  -- and that of schema version 3
+  all_added : AddsTables (read_of (copied.Requests ∷ first_copied) t) no_rows
+      (record t { vouchers = []; counts = []; sessions = []; totals = [] })
+  all_added = (
+    record no_rows { requests = t.requests },
+    rows_added copied.Requests request_cells (λ l. record no_rows { requests = l }) (λ p qs. (p, refl, refl))
+        t.requests [],
+    first_added t.requests,
+  )
 
 tables_added : (from : OldSchema) (places : TablePlaces) (trees : Trees) (t : Contents)
-    → StoresRows (version_number from) places trees t
-    → AddsTables (read_of (tables_of from) t) no_rows (with_empty_tables from t)
-tables_added First places trees t store = first_added 1 places trees t store [] [] []
-tables_added Second places trees t store = second_added 2 places trees t store (lit≤ tt) []
-tables_added Third places trees t store = all_added 3 places trees t store (lit≤ tt)
-tables_added Fourth places trees t store = all_added 4 places trees t store (lit≤ tt)
-tables_added Fifth places trees t store = all_added 5 places trees t store (lit≤ tt)
+    → StoresRows (layout_of (version_number from)) (version_number from) places trees t
+    → AddsTables (read_of (copied_tables from) t) no_rows (with_copied from t)
+tables_added First places trees t store = first_added (layout_of 1) 1 places trees t store []
+tables_added Second places trees t store = first_added (layout_of 2) 2 places trees t store []
+tables_added Third places trees t store = all_added (layout_of 3) 3 places trees t store
+tables_added Fourth places trees t store = all_added (layout_of 4) 4 places trees t store
+tables_added Fifth places trees t store = all_added (layout_of 5) 5 places trees t store
+tables_added Sixth places trees t store = all_added (layout_of 6) 6 places trees t store
 
 -- ---- the tables of each schema version
 
--- what holds of each table of the list
-abbrev Each : (OurTable → Type 0) → List OurTable → Type 0
-Each P xs = AllByRecursion P xs
+abbrev IsThere : OldSchema → OurTable → Type 0
+IsThere from x = IsTableIn (layout_of (version_number from)) (version_number from) x
 
-had : (from : OldSchema) → Each (λ x. since x ≤ version_number from) (tables_of from)
-had First = (lit≤ tt, (lit≤ tt, (lit≤ tt, (lit≤ tt, (lit≤ tt, (lit≤ tt, tt))))))
-had Second =
-    (lit≤ tt, (lit≤ tt, (lit≤ tt, (lit≤ tt, (lit≤ tt, (lit≤ tt, (lit≤ tt, (lit≤ tt, tt))))))))
-had Third =
-    (lit≤ tt, (lit≤ tt, (lit≤ tt, (lit≤ tt, (lit≤ tt, (lit≤ tt, (lit≤ tt, (lit≤ tt, (lit≤ tt, tt)))))))))
-had Fourth =
-    (lit≤ tt, (lit≤ tt, (lit≤ tt, (lit≤ tt, (lit≤ tt, (lit≤ tt, (lit≤ tt, (lit≤ tt, (lit≤ tt, tt)))))))))
-had Fifth =
-    (lit≤ tt, (lit≤ tt, (lit≤ tt, (lit≤ tt, (lit≤ tt, (lit≤ tt, (lit≤ tt, (lit≤ tt, (lit≤ tt, tt)))))))))
+had : (from : OldSchema) → AllByRecursion (IsThere from) (tables_of from)
+had First =
+    ((lit≤ tt, tt), ((lit≤ tt, tt), ((lit≤ tt, tt), ((lit≤ tt, tt), ((lit≤ tt, tt), ((lit≤ tt, tt), tt))))))
+had Second = (
+  (lit≤ tt, tt),
+  (
+    (lit≤ tt, tt),
+    ((lit≤ tt, tt), ((lit≤ tt, tt), ((lit≤ tt, tt), ((lit≤ tt, tt), ((lit≤ tt, tt), ((lit≤ tt, tt), tt)))))),
+  ),
+)
+had Third = (
+  (lit≤ tt, tt),
+  (
+    (lit≤ tt, tt),
+    (
+      (lit≤ tt, tt),
+      (
+        (lit≤ tt, tt),
+        ((lit≤ tt, tt), ((lit≤ tt, tt), ((lit≤ tt, tt), ((lit≤ tt, tt), ((lit≤ tt, tt), tt))))),
+      ),
+    ),
+  ),
+)
+had Fourth = (
+  (lit≤ tt, tt),
+  (
+    (lit≤ tt, tt),
+    (
+      (lit≤ tt, tt),
+      (
+        (lit≤ tt, tt),
+        ((lit≤ tt, tt), ((lit≤ tt, tt), ((lit≤ tt, tt), ((lit≤ tt, tt), ((lit≤ tt, tt), tt))))),
+      ),
+    ),
+  ),
+)
+had Fifth = (
+  (lit≤ tt, tt),
+  (
+    (lit≤ tt, tt),
+    (
+      (lit≤ tt, tt),
+      (
+        (lit≤ tt, tt),
+        ((lit≤ tt, tt), ((lit≤ tt, tt), ((lit≤ tt, tt), ((lit≤ tt, tt), ((lit≤ tt, tt), tt))))),
+      ),
+    ),
+  ),
+)
+had Sixth = (
+  (lit≤ tt, tt),
+  (
+    (lit≤ tt, tt),
+    ((lit≤ tt, tt), ((lit≤ tt, tt), ((lit≤ tt, tt), ((lit≤ tt, tt), ((lit≤ tt, tt), tt))))),
+  ),
+)
 
-pub has_since : (from : OldSchema) (x : OurTable) → Has (tables_of from) x → since x ≤ version_number from
-has_since from x has = all_has (λ y. since y ≤ version_number from) (tables_of from) x (had from) has
+has_table : (from : OldSchema) (x : OurTable) → Has (tables_of from) x → IsThere from x
+has_table from x has = all_has (IsThere from) (tables_of from) x (had from) has
+
+had_copied : (from : OldSchema)
+    → AllByRecursion (λ x. since (table_copied x) ≤ version_number from) (copied_tables from)
+had_copied First = (lit≤ tt, (lit≤ tt, (lit≤ tt, (lit≤ tt, tt))))
+had_copied Second = (lit≤ tt, (lit≤ tt, (lit≤ tt, (lit≤ tt, tt))))
+had_copied Third = (lit≤ tt, (lit≤ tt, (lit≤ tt, (lit≤ tt, (lit≤ tt, tt)))))
+had_copied Fourth = (lit≤ tt, (lit≤ tt, (lit≤ tt, (lit≤ tt, (lit≤ tt, tt)))))
+had_copied Fifth = (lit≤ tt, (lit≤ tt, (lit≤ tt, (lit≤ tt, (lit≤ tt, tt)))))
+had_copied Sixth = (lit≤ tt, (lit≤ tt, (lit≤ tt, (lit≤ tt, (lit≤ tt, tt)))))
+
+pub has_copied : (from : OldSchema) (x : CopiedTable) → Has (copied_tables from) x
+    → since (table_copied x) ≤ version_number from
+has_copied from x has =
+    all_has (λ y. since (table_copied y) ≤ version_number from) (copied_tables from) x (had_copied from) has
 
 distinct_first : AreDistinct first_tables
 distinct_first = (
@@ -241,39 +299,40 @@ distinct_second = (
   ((refl, (refl, (refl, (refl, (refl, (refl, tt)))))), distinct_first),
 )
 
-distinct_all : AreDistinct all_tables
-distinct_all = ((refl, (refl, (refl, (refl, (refl, (refl, (refl, (refl, tt)))))))), distinct_second)
+distinct_third : AreDistinct (our.Requests ∷ second_tables)
+distinct_third = ((refl, (refl, (refl, (refl, (refl, (refl, (refl, (refl, tt)))))))), distinct_second)
 
 distinct_tables : (from : OldSchema) → AreDistinct (tables_of from)
 distinct_tables First = distinct_first
 distinct_tables Second = distinct_second
-distinct_tables Third = distinct_all
-distinct_tables Fourth = distinct_all
-distinct_tables Fifth = distinct_all
+distinct_tables Third = distinct_third
+distinct_tables Fourth = distinct_third
+distinct_tables Fifth = distinct_third
+distinct_tables Sixth = ((refl, (refl, (refl, (refl, (refl, (refl, tt)))))), distinct_first)
 
 standing : (from : OldSchema) (db : Database) (t : Contents) (h : HoldsIn (version_number from) [] db t)
-    → AreStanding (has_clauses (version_number from)) (tables_of from) db.schema
-standing from db t h x has = (h.places x, (h.tables_exist.tables x (has_since from x has)).exists)
+    → AreStanding (layout_of (version_number from)) (tables_of from) db.schema
+standing from db t h x has = (h.places x, (h.tables_exist.tables x (has_table from x has)).exists)
 
 -- ---- dropped, created and filled
 
 pub restored : (from : OldSchema) (read : List WholeTable) (a b c d : State) → AreNamesFree a.now.schema
     → DropsTables (tables_of from) a b → CreatesEmpty b c → Adds (AddsTables (map table_read read)) c d
-    → Rebuilds from read (with_empty_tables from) a d
+    → Rebuilds from read (with_copied from) a d
 restored from read a b c d free drops creates adds =
     let dropped = λ (t : Contents) (h : HoldsIn (version_number from) [] a.now t).
-    drops.drops (has_clauses (version_number from)) (distinct_tables from) (standing from a.now t h) free in
+    drops.drops (layout_of (version_number from)) (distinct_tables from) (standing from a.now t h) free in
     let added = λ (t : Contents) (h : HoldsIn (version_number from) [] a.now t)
-    (is : AreRead read (tables_of from) t).
-    subst (λ ws. AddsTables ws no_rows (with_empty_tables from t)) (sym is)
+    (is : AreRead read (copied_tables from) t).
+    subst (λ ws. AddsTables ws no_rows (with_copied from t)) (sym is)
     (tables_added from h.places a.now.trees t h.store) in
     record {
-      holds = λ t h is. adds.holds no_rows (with_empty_tables from t) (added t h is)
+      holds = λ t h is. adds.holds no_rows (with_copied from t) (added t h is)
           (creates.holds (dropped t h).0);
       others = λ t h is.
           let it = dropped t h in
           others_then a.now b.now d.now it.1 (others_then b.now c.now d.now (creates.others it.0)
-          (adds.others no_rows (with_empty_tables from t) (added t h is) (creates.holds it.0)));
+          (adds.others no_rows (with_copied from t) (added t h is) (creates.holds it.0)));
       committed = adds.committed ∙ creates.committed ∙ drops.committed;
       mode = adds.mode;
     }

@@ -7,11 +7,12 @@ use Rattle.sqlite_ast.specs.declared.Statement.TheVariants as written
 use Rattle.portal_tables_rows.proofs.Asking.{understood_idle}
 use Rattle.portal_tables_sql.proofs.WholeTexts as texts
 use Rattle.portal_tables_sql.proofs.RequestTexts.{request_columns}
-use Rattle.portal_tables_sql.proofs.SelectTexts.{head_columns, batch_columns, count_columns, total_columns}
+use Rattle.portal_tables_sql.proofs.SelectTexts.{head_columns, batch_columns}
+use Rattle.portal_tables_sql.proofs.ListTexts.{total_columns}
 use Rattle.portal_tables_rows.proofs.Common.{head_name, batches_name, counts_name, totals_name, requests_name}
 use Rattle.portal_tables_sql.specs.Copies.{select_of as select_all_of}
-use Rattle.portal_tables_sql.specs.declared.our_tables.OurTable.{OurTable}
-use Rattle.portal_tables_sql.specs.declared.our_tables.OurTable.TheVariants as our
+use Rattle.portal_tables_sql.specs.declared.copied_tables.CopiedTable.{CopiedTable}
+use Rattle.portal_tables_sql.specs.declared.copied_tables.CopiedTable.TheVariants as copied
 
 pub plans_asked : OnlyAsks texts.all_plans_text
 unfolding everything
@@ -81,30 +82,6 @@ batches_asked schema c is =
       counted = refl;
     }) (λ schema. refl) (λ schema base. refl) schema c is).0
 
-pub counts_asked : OnlyAsks texts.all_counts_text
-unfolding everything
-counts_asked schema c is =
-    (understood_idle texts.all_counts_text
-    (written.Select (select_of counts_name count_columns None (up (codes "rowid")) None)) 0 (record {
-      parsed = _;
-      read = refl;
-      is = refl;
-      timeless = refl;
-      counted = refl;
-    }) (λ schema. refl) (λ schema base. refl) schema c is).0
-
-pub totals_asked : OnlyAsks texts.all_totals_text
-unfolding everything
-totals_asked schema c is =
-    (understood_idle texts.all_totals_text
-    (written.Select (select_of totals_name total_columns None (up (codes "number")) None)) 0 (record {
-      parsed = _;
-      read = refl;
-      is = refl;
-      timeless = refl;
-      counted = refl;
-    }) (λ schema. refl) (λ schema base. refl) schema c is).0
-
 pub requests_asked : OnlyAsks texts.all_requests_text
 unfolding everything
 requests_asked schema c is =
@@ -117,13 +94,61 @@ requests_asked schema c is =
       counted = refl;
     }) (λ schema. refl) (λ schema base. refl) schema c is).0
 
-pub whole_asked : (x : OurTable) → OnlyAsks (select_all_of x)
-whole_asked our.Head = heads_asked
-whole_asked our.Plans = plans_asked
-whole_asked our.Batches = batches_asked
-whole_asked our.Vouchers = vouchers_asked
-whole_asked our.Sessions = sessions_asked
-whole_asked our.Grants = grants_asked
-whole_asked our.Counts = counts_asked
-whole_asked our.Totals = totals_asked
-whole_asked our.Requests = requests_asked
+pub whole_asked : (x : CopiedTable) → OnlyAsks (select_all_of x)
+whole_asked copied.Head = heads_asked
+whole_asked copied.Plans = plans_asked
+whole_asked copied.Batches = batches_asked
+whole_asked copied.Grants = grants_asked
+whole_asked copied.Requests = requests_asked
+
+-- ---- of schema versions that keep their counters apart
+
+pub old_vouchers_asked : OnlyAsks texts.old_vouchers_text
+unfolding everything
+old_vouchers_asked schema c is =
+    (understood_idle texts.old_vouchers_text
+    (written.Select (select_of vouchers_name texts.old_voucher_columns None (up (codes "rowid")) None)) 0
+    (record {
+      parsed = _;
+      read = refl;
+      is = refl;
+      timeless = refl;
+      counted = refl;
+    }) (λ schema. refl) (λ schema base. refl) schema c is).0
+
+pub old_sessions_asked : OnlyAsks texts.old_sessions_text
+unfolding everything
+old_sessions_asked schema c is =
+    (understood_idle texts.old_sessions_text
+    (written.Select (select_of sessions_name texts.old_session_columns None (up (codes "number")) None)) 0
+    (record {
+      parsed = _;
+      read = refl;
+      is = refl;
+      timeless = refl;
+      counted = refl;
+    }) (λ schema. refl) (λ schema base. refl) schema c is).0
+
+pub old_counts_asked : OnlyAsks texts.old_counts_text
+unfolding everything
+old_counts_asked schema c is =
+    (understood_idle texts.old_counts_text
+    (written.Select (select_of counts_name texts.count_columns None (up (codes "rowid")) None)) 0 (record {
+      parsed = _;
+      read = refl;
+      is = refl;
+      timeless = refl;
+      counted = refl;
+    }) (λ schema. refl) (λ schema base. refl) schema c is).0
+
+pub old_totals_asked : OnlyAsks texts.old_totals_text
+unfolding everything
+old_totals_asked schema c is =
+    (understood_idle texts.old_totals_text
+    (written.Select (select_of totals_name total_columns None (up (codes "number")) None)) 0 (record {
+      parsed = _;
+      read = refl;
+      is = refl;
+      timeless = refl;
+      counted = refl;
+    }) (λ schema. refl) (λ schema base. refl) schema c is).0

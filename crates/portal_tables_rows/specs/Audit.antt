@@ -1,16 +1,14 @@
 -- When the rows of a database agree with each other: each has a key of its own, each row that another refers
 -- to is there, and the counters are what the other rows give.
-use Rattle.std.specs.Prelude.{◌≡◌, ℕ, Bool, true, ◌&&◌, nat_eq, bytes_eq, List, map, length, IsTrue}
+use Rattle.std.specs.Prelude.{◌≡◌, ℕ, Bool, true, ◌&&◌, nat_eq, bytes_eq, List, map, length}
 use Rattle.std.specs.List.{IsDistinct, list_all, list_any}
 use Rattle.std.specs.HashSet.{HashSet, contains}
-use Rattle.sqlite.specs.State.{State, HasCleanDisk}
 use Rattle.sqlite_rules.specs.Lists.{Has}
 use Rattle.portal_codes.specs.Code.{IsCode, text_of}
 use Rattle.portal_model.specs.Rows.{VoucherRow, SessionRow, GrantRow, CountRow, TotalRow, total_from}
 use Rattle.portal_tables_rows.specs.declared.counted_rows.CountedRows.{CountedRows}
 use Rattle.portal_tables_rows.specs.Contents.{Contents, HeadRow}
-use Rattle.portal_tables_rows.specs.First.{HoldsFirst}
-use Rattle.portal_tables_rows.specs.Read.{voucher_read, session_read}
+use Rattle.portal_tables_rows.specs.Read.{voucher_read, voucher_count, session_read, session_total}
 use Rattle.portal_tables_rows.specs.Requests.{key_of}
 use Rattle.portal_tables_rows.specs.Sums.{grant_read, rows_for_sums, uses_in}
 
@@ -104,9 +102,7 @@ pub record Agrees (h : HeadRow) (t : Contents) : Type 0 where
 pub record AreReadRows (rows : CountedRows) (t : Contents) : Type 0 where
   pub plans : rows.plans.items ≡ t.plans
   pub vouchers : map voucher_read rows.vouchers.items ≡ t.vouchers
+  pub counts : map voucher_count rows.vouchers.items ≡ t.counts
   pub sessions : map session_read rows.sessions.items ≡ t.sessions
+  pub totals : map session_total rows.sessions.items ≡ t.totals
   pub grants : map grant_read rows.grants.items ≡ t.grants
-
--- what holds of the rows that the open connection had in the six tables of schema version 1
-abbrev pub OfFirst : State → State → (Contents → Type 0) → Type 0
-OfFirst old new Is = HasCleanDisk new → IsTrue old.is_open → (t : Contents) → HoldsFirst old.now t → Is t

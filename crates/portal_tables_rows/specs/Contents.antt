@@ -1,5 +1,5 @@
 -- The rows of the tables as values, and the cells in which each is stored.
-use Rattle.std.specs.Prelude.{ℕ, ℤ, pos, Bool, if◌then◌else◌, List, [], ◌∷◌, Option}
+use Rattle.std.specs.Prelude.{ℕ, ℤ, pos, Bool, if◌then◌else◌, List, [], ◌∷◌, ◌++◌, Option}
 use Rattle.sqlite.specs.declared.types.Value.{Value}
 use Rattle.sqlite.specs.declared.types.Value.TheVariants.{Null, Int, Text, Blob}
 use Rattle.sqlite.specs.Order.{Row}
@@ -31,6 +31,25 @@ pub record Contents : Type 0 where
   pub totals : List TotalRow
   pub requests : List RequestRow
 
+-- a row of portal_vouchers: a voucher with how often it was redeemed
+pub record WholeVoucher : Type 0 where
+  pub row : VoucherRow
+  pub redeemed : ℕ
+
+-- a row of portal_sessions: a session with its end and its remaining allowance
+pub record WholeSession : Type 0 where
+  pub row : SessionRow
+  pub ends : Option ℕ
+  pub remaining : Option ℤ
+
+-- the count of the voucher
+abbrev pub count_of : WholeVoucher → CountRow
+count_of w = record { code = w.row.code; redeemed = w.redeemed }
+
+-- the total of the session
+abbrev pub total_of : WholeSession → TotalRow
+total_of w = record { number = w.row.number; ends = w.ends; remaining = w.remaining }
+
 -- the cell of a boolean
 abbrev pub flag : Bool → Value
 flag b = Int (if b then pos 1 else pos 0)
@@ -51,6 +70,9 @@ head_stored h =
 abbrev pub session_stored : SessionRow → Row
 session_stored s = number s.number ∷ Null ∷ Text s.device ∷ Text s.plan ∷ number s.opened
     ∷ number s.used ∷ or_null s.closed ∷ []
+
+abbrev pub whole_session_stored : WholeSession → Row
+whole_session_stored w = session_stored w.row ++ or_null w.ends ∷ signed_or_null w.remaining ∷ []
 
 abbrev pub grant_stored : GrantRow → Row
 grant_stored g = number g.number ∷ Null ∷ Text g.code ∷ number g.session ∷ number g.moment
@@ -76,9 +98,15 @@ abbrev pub voucher_cells : VoucherRow → Row
 voucher_cells v =
     Text v.code ∷ Text v.batch ∷ number v.place ∷ or_null v.sold ∷ or_null v.refunded ∷ or_null v.amount ∷ []
 
+abbrev pub whole_voucher_cells : WholeVoucher → Row
+whole_voucher_cells w = voucher_cells w.row ++ number w.redeemed ∷ []
+
 abbrev pub session_cells : SessionRow → Row
 session_cells s =
     number s.number ∷ Text s.device ∷ Text s.plan ∷ number s.opened ∷ number s.used ∷ or_null s.closed ∷ []
+
+abbrev pub whole_session_cells : WholeSession → Row
+whole_session_cells w = session_cells w.row ++ or_null w.ends ∷ signed_or_null w.remaining ∷ []
 
 abbrev pub grant_cells : GrantRow → Row
 grant_cells g = number g.number ∷ Text g.code ∷ number g.session ∷ number g.moment

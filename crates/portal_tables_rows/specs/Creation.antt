@@ -10,7 +10,7 @@ use Rattle.sqlite.specs.Rows.{sequence}
 use Rattle.portal_tables_sql.specs.TableExists.{IsUnactedBy}
 use Rattle.portal_tables_sql.specs.Made.{HasItsSequence, HasMade}
 use Rattle.portal_tables_sql.specs.Harmless.{any_autoincrement}
-use Rattle.portal_tables_sql.specs.Tables.{table_in, table_of, name_of}
+use Rattle.portal_tables_sql.specs.Tables.{Layout, table_in, table_of, name_of}
 use Rattle.portal_tables_sql.specs.declared.our_tables.OurTable.{OurTable}
 use Rattle.portal_tables_rows.specs.SchemaVersions.{has_no_action_on_ours}
 use Rattle.portal_tables_rows.specs.Contents.{Contents}
@@ -87,11 +87,11 @@ pub record Indexes (xs : List OurIndex) (old new : State) : Type 0 where
 
 -- ---- tables that are dropped
 
--- each of these tables exists somewhere, with its clauses or without
-abbrev pub AreStanding : Bool → List OurTable → Schema → Type 0
-AreStanding keyed xs schema =
+-- each of these tables exists somewhere, in this layout
+abbrev pub AreStanding : Layout → List OurTable → Schema → Type 0
+AreStanding layout xs schema =
     (x : OurTable) → Has xs x → (place : TablePlace) × TableExists schema place.at
-    (table_in keyed x place.tree)
+    (table_in layout x place.tree)
 
 -- no two of them have one name
 abbrev pub AreDistinct : List OurTable → Type 0
@@ -102,7 +102,7 @@ AreDistinct (x ∷ xs) =
 -- Inside a transaction these tables, which are all different, were dropped, and the other tables kept.
 -- Nothing is committed.
 pub record DropsTables (xs : List OurTable) (old new : State) : Type 0 where
-  pub drops : (keyed : Bool) → AreDistinct xs → AreStanding keyed xs old.now.schema
+  pub drops : (layout : Layout) → AreDistinct xs → AreStanding layout xs old.now.schema
       → AreNamesFree old.now.schema → AreNamesFree new.now.schema × KeepsOthers old.now new.now
   pub committed : new.committed ≡ old.committed
   pub mode : new.in_transaction ≡ true

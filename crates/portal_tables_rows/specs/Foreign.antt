@@ -20,7 +20,7 @@ use Rattle.portal_ledger.specs.Fingerprint.{IsFingerprint}
 use Rattle.portal_ledger.specs.RequestRow.{RequestRow, IsAnswerTyped, row_of_request}
 use Rattle.portal_tables_rows.specs.declared.rows.RowError.{RowError}
 use Rattle.portal_tables_rows.specs.declared.rows.RowError.TheVariants.{Sql, ForeignRow}
-use Rattle.portal_tables_rows.specs.Contents.{Contents, HeadRow}
+use Rattle.portal_tables_rows.specs.Contents.{Contents, HeadRow, WholeVoucher, WholeSession}
 
 -- ---- rows that this product writes
 
@@ -73,6 +73,13 @@ pub record IsOwnSession (s : SessionRow) : Type 0 where
 pub record IsOwnGrant (g : GrantRow) : Type 0 where
   pub code : IsPrintedCode g.code
   pub moment : IsMomentCell g.moment
+
+-- a voucher with its count, and a session with its total
+abbrev pub IsOwnWholeVoucher : WholeVoucher → Type 0
+IsOwnWholeVoucher w = IsOwnVoucher w.row
+
+abbrev pub IsOwnWholeSession : WholeSession → Type 0
+IsOwnWholeSession w = IsOwnSession w.row × IsMomentIfSome w.ends
 
 abbrev pub IsOwnCount : CountRow → Type 0
 IsOwnCount k = IsPrintedCode k.code

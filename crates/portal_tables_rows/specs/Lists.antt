@@ -12,7 +12,7 @@ use Rattle.portal_tables_sql.specs.Stored.{or_null}
 use Rattle.portal_model.specs.History.{is_below}
 use Rattle.portal_model.specs.IdText.{IsIdText}
 use Rattle.portal_model.specs.declared.record.Batch.{Batch}
-use Rattle.portal_model.specs.Rows.{VoucherRow, TotalRow}
+use Rattle.portal_model.specs.Rows.{VoucherRow, GrantRow, TotalRow}
 use Rattle.portal_tables_rows.specs.Foreign.{IsMomentIfSome}
 use Rattle.portal_tables_rows.specs.declared.lists.SaleValue.{SaleValue}
 
@@ -84,9 +84,9 @@ by_refund a b = ordering_then (option_cmp nat_cmp a.refunded b.refunded) (slice_
 abbrev pub by_code : VoucherRow → VoucherRow → Ordering
 by_code a b = slice_cmp nat_cmp a.code b.code
 
--- by the numbers of the sessions
-abbrev pub by_number : TotalRow → TotalRow → Ordering
-by_number a b = nat_cmp a.number b.number
+-- the later redemption first
+abbrev pub by_newest : GrantRow → GrantRow → Ordering
+by_newest a b = nat_cmp b.number a.number
 
 -- ---- what is read of a voucher
 

@@ -14,8 +14,8 @@ use Rattle.sqlite_resolve.specs.declared.compiled.Compiled.{Compiled}
 use Rattle.sqlite_resolve.specs.declared.error.CompileError.{CompileError}
 use Rattle.portal_tables_sql.specs.Harmless.{are_harmless}
 use Rattle.portal_tables_sql.specs.Stored.{number}
-use Rattle.portal_tables_sql.specs.Indexes.{described_index, our_indexes}
-use Rattle.portal_tables_sql.specs.Tables.{name_of, our_tables}
+use Rattle.portal_tables_sql.specs.Indexes.{described_index, our_indexes, old_index_name}
+use Rattle.portal_tables_sql.specs.Tables.{name_of, our_tables, current_tables}
 use Rattle.portal_tables_sql.specs.declared.our_indexes.OurIndex.{OurIndex}
 
 -- ---- names
@@ -36,11 +36,11 @@ has_no_action_on_ours schema = list_all (λ x. are_harmless (name_of x) schema) 
 abbrev pub has_table : Schema → List ℕ → Bool
 has_table schema name = is_some (table_named schema name)
 
--- each of the product's tables exists
+-- each table of this schema version exists
 abbrev pub has_our_tables : Schema → Bool
-has_our_tables schema = list_all (λ x. has_table schema (name_of x)) our_tables
+has_our_tables schema = list_all (λ x. has_table schema (name_of x)) current_tables
 
--- each of them exists, and no foreign key acts on one of them
+-- each of them exists, and no foreign key acts on one of the product's table names
 abbrev pub is_usable_schema : Schema → Bool
 is_usable_schema schema = has_our_tables schema && has_no_action_on_ours schema
 
@@ -59,7 +59,7 @@ abbrev pub has_our_index : Schema → OurIndex → Bool
 has_our_index schema x = has_index_on x schema.indexes
     (option_and_then (slice_get schema.tables) (table_named schema (name_of (described_index x).table)))
 
--- the product's tables have all of their indexes
+-- the product's tables have all indexes of this schema version
 abbrev pub is_indexed : Schema → Bool
 is_indexed schema = list_all (has_our_index schema) our_indexes
 
@@ -77,9 +77,13 @@ refers_to_ours t = list_any (λ (ref : Reference). names_ours ref.parent) t.refe
 abbrev pub hangs_on_ours : Table → Bool
 hangs_on_ours t = not (names_ours t.name) && refers_to_ours t
 
--- one of the product's indexes has the name, as SQL compares names
+-- one of the product's indexes, of this schema version, has the name, as SQL compares names
+abbrev pub names_current_index : List ℕ → Bool
+names_current_index name = list_any (λ x. same_name name (described_index x).name) our_indexes
+
+-- of all schema versions
 abbrev pub names_our_index : List ℕ → Bool
-names_our_index name = list_any (λ x. same_name name (described_index x).name) our_indexes
+names_our_index name = names_current_index name || same_name name old_index_name
 
 -- the index is one of the product's, or was made by a clause
 abbrev pub is_own_index : Index → Bool

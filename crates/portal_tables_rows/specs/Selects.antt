@@ -16,7 +16,7 @@ use Rattle.portal_tables_rows.specs.Foreign.{AreOwn, NotForeign, BlamesForeign}
 use Rattle.portal_tables_rows.specs.Holds.{Holds, HasTables}
 use Rattle.sqlite.specs.Schema.{Schema}
 use Rattle.sqlite.specs.Effect.{Database}
-use Rattle.portal_tables_rows.specs.First.{HoldsFirst, HasFirst}
+use Rattle.portal_tables_rows.specs.First.{HoldsFirst, HasFirst, HoldsApart, HasApart, HoldsBare, HasBare}
 
 -- A row, or rows, that are read as a value: if the disk is clean, Is holds of the rows of the tables and the
 -- result.
@@ -54,18 +54,33 @@ pub record ReadsMany {S T : Type 0} (g : Ghosts S) (cells : T → Row) (width : 
       → ((rows : List Row) → Shown sql params (state g old) (state g new) rows
       → AreOwn (λ row. IsOwn (columns width row)) rows) → NotForeign result
 
--- ---- the tables of schema version 1
+-- ---- the tables of other schema versions
 
--- Rows that are read as values: if the disk is clean, Is holds of the rows of the six tables and what is
--- read. It
--- writes nothing. If Own holds of the rows of the tables, the call does not give ForeignRow.
-pub record ReadsFirst {S A : Type 0} (g : Ghosts S) (old new : Held S) (result : Result A RowError)
+-- Rows that are read as values: if the disk is clean, Is holds of the rows of the tables and what is read. It
+-- writes nothing, whatever the schema has. If Own holds of the rows of the tables, the call does not give
+-- ForeignRow.
+pub record ReadsTables {S A : Type 0} (g : Ghosts S) (Has : Schema → Type 0)
+    (Hold : Database → Contents → Type 0) (old new : Held S) (result : Result A RowError)
     (Is : Contents → A → Type 0) (Own : Contents → Type 0) : Type 0 where
-  pub found : HasCleanDisk (state g new) → (t : Contents)
-      → HoldsFirst (state g old).now t → IfOk result (Is t)
-  pub looks : Looks HasFirst result (state g old) (state g new)
+  pub found : HasCleanDisk (state g new) → (t : Contents) → Hold (state g old).now t → IfOk result (Is t)
+  pub looks : Looks Has result (state g old) (state g new)
   pub always : Looks Anything result (state g old) (state g new)
-  pub foreign : BlamesForeign HoldsFirst Own (state g old) (state g new) result
+  pub foreign : BlamesForeign Hold Own (state g old) (state g new) result
+
+-- of the six tables of schema version 1
+abbrev pub ReadsFirst : {S A : Type 0} → Ghosts S → Held S → Held S → Result A RowError
+    → (Contents → A → Type 0) → (Contents → Type 0) → Type 0
+ReadsFirst g = ReadsTables g HasFirst HoldsFirst
+
+-- of the tables of the schema version, with the counters apart
+abbrev pub ReadsApart : {S A : Type 0} → Ghosts S → ℕ → Held S → Held S → Result A RowError
+    → (Contents → A → Type 0) → (Contents → Type 0) → Type 0
+ReadsApart g schema_version = ReadsTables g (HasApart schema_version) (HoldsApart schema_version)
+
+-- of the tables of this schema version, whatever indexes they have
+abbrev pub ReadsBare : {S A : Type 0} → Ghosts S → Held S → Held S → Result A RowError
+    → (Contents → A → Type 0) → (Contents → Type 0) → Type 0
+ReadsBare g = ReadsTables g HasBare HoldsBare
 
 -- On an open connection: if the disk is clean, Is holds of the rows of the tables and what is read. It writes
 -- nothing. If Own holds of the rows of the tables, the call does not give ForeignRow.

@@ -1,6 +1,6 @@
 -- The rows after each statement, and the promises of statements and transactions.
 use Rattle.std.specs.Prelude.{◌≡◌, ℕ, cond, nat_eq, true, false, IsTrue, List, [], ◌∷◌, ◌++◌, map, None}
-use Rattle.std.specs.Prelude.{Result}
+use Rattle.std.specs.Prelude.{Result, Option, ℤ}
 use Rattle.sqlite.specs.Store.{Ghosts}
 use Rattle.sqlite.specs.Tree.{Trees}
 use Rattle.sqlite.specs.State.{State}
@@ -16,7 +16,8 @@ use Rattle.portal_model.specs.Rows.{VoucherRow, SessionRow, GrantRow, CountRow, 
 use Rattle.portal_model.specs.Rows.{refunded_if, used_if, closed_if, counted_if}
 use Rattle.portal_tables_rows.specs.declared.column_values.Total.{Total}
 use Rattle.portal_ledger.specs.RequestRow.{RequestRow}
-use Rattle.portal_tables_rows.specs.Contents.{Contents, HeadRow}
+use Rattle.portal_tables_rows.specs.Contents.{Contents, HeadRow, WholeVoucher, WholeSession, count_of}
+use Rattle.portal_tables_rows.specs.Contents.{total_of}
 use Rattle.portal_tables_rows.specs.Holds.{Holds, CrashStateHoldsRows}
 use Rattle.portal_tables_rows.specs.Others.{KeepsOthers, CrashStateHasOthers}
 
@@ -48,6 +49,14 @@ granted_row number code session at plan = record {
   seconds = plan.seconds;
   bytes = plan.bytes;
 }
+
+-- the same voucher, which was not redeemed
+abbrev pub new_whole_voucher : List ℕ → ℕ → List ℕ → WholeVoucher
+new_whole_voucher batch place code = record { row = new_voucher batch place code; redeemed = 0 }
+
+-- the session that is opened, with its end and this remaining allowance
+abbrev pub opened_whole : Session → List ℕ → Option ℤ → WholeSession
+opened_whole s plan remaining = record { row = opened_row s plan; ends = s.ends; remaining = remaining }
 
 -- how often the voucher with the code was redeemed
 abbrev pub count_row : List ℕ → ℕ → CountRow
@@ -101,6 +110,14 @@ with_grant g t = record t { grants = put_by (λ (x : GrantRow). x.number) g t.gr
 
 abbrev pub with_total : TotalRow → Contents → Contents
 with_total m t = record t { totals = put_by (λ (x : TotalRow). x.number) m t.totals }
+
+-- a voucher with its count, and a session with its total
+
+abbrev pub with_whole_voucher : WholeVoucher → Contents → Contents
+with_whole_voucher w t = with_count (count_of w) (with_voucher w.row t)
+
+abbrev pub with_whole_session : WholeSession → Contents → Contents
+with_whole_session w t = with_total (total_of w) (with_session w.row t)
 
 -- ---- a row changed
 

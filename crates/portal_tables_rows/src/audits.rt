@@ -15,14 +15,16 @@ ghost use Rattle.portal_tables_rows.specs.Requests.{key_of, key_read};
 ghost use Rattle.portal_tables_rows.specs.Selects.{ReadsOpen};
 
 use crate::column_values::Total;
-use crate::counted_rows::{CountedRows, read_counted_rows};
+use crate::counted_rows::{
+    CountedRows, counts_of_vouchers, read_counted_rows, sessions_without_totals, totals_of_sessions,
+};
 use crate::finds::read_head_row;
 use crate::grants::GrantValue;
 use crate::keys::{are_keys_distinct, are_references_there};
 use crate::rows::{CountValue, HeadValue, RowError, VoucherValue};
 use crate::stored_requests::RequestKey;
 use crate::sums::{count_uses_by_code, sum_totals, uses_of_code};
-use crate::whole::{read_all_batches, read_all_counts, read_all_request_keys, read_all_totals};
+use crate::whole::{read_all_batches, read_all_request_keys};
 use portal_codes::Code;
 use portal_model::proof::witness;
 use portal_model::record::Batch;
@@ -145,7 +147,8 @@ fn counters_agree(
     if !vouchers_agree(alloc, &rows.vouchers, counts)? {
         return Ok(false);
     }
-    let sums = sum_totals(alloc, &rows.plans, &rows.sessions, &rows.grants)?;
+    let sessions = sessions_without_totals(alloc, &rows.sessions)?;
+    let sums = sum_totals(alloc, &rows.plans, &sessions, &rows.grants)?;
     Ok(are_totals_equal(totals, &sums))
 }
 
@@ -191,8 +194,8 @@ pub fn audit<S: Alter>(conn: &mut Connection<S>) -> Result<bool, RowError>
     };
     let rows = read_counted_rows(conn)?;
     let batches = read_all_batches(conn)?;
-    let counts = read_all_counts(conn)?;
-    let totals = read_all_totals(conn)?;
     let requests = read_all_request_keys(conn)?;
+    let counts = counts_of_vouchers(*batches.allocator(), &rows.vouchers)?;
+    let totals = totals_of_sessions(*batches.allocator(), &rows.sessions)?;
     rows_agree(&head, &rows, &batches, &counts, &totals, requests)
 }

@@ -22,8 +22,8 @@ impl<'a> ToSql<'a> for PrintedText<'a> {
     }
 }
 
-/// A row of `portal_totals`: the end of a session and its remaining allowance in bytes, which is below 0
-/// if more was used.
+/// The end of a session and its remaining allowance in bytes, which is below 0 if more was used. A row of
+/// `portal_totals`, which the schema versions 2 to 5 have.
 #[derive(Clone, Copy, Debug, PartialEq, Eq)]
 pub struct Total {
     pub number: u64,

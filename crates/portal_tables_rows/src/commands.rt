@@ -28,10 +28,7 @@ ghost use Rattle.portal_tables_rows.specs.Commands.{after_report, after_refund, 
 ghost use Rattle.portal_tables_rows.specs.Commands.{after_command_with, with_kept_request};
 
 use crate::column_values::{Total, integer, next};
-use crate::inserts::{
-    insert_batch, insert_count, insert_grant, insert_plan, insert_session, insert_total,
-    insert_voucher,
-};
+use crate::inserts::{insert_batch, insert_grant, insert_plan, insert_session, insert_voucher};
 use crate::requests::insert_request;
 use crate::updates::{
     set_closed, set_head_numbers, set_last_moment, set_redeemed, set_refunded, set_session_total,
@@ -60,8 +57,8 @@ fn remaining_of(session: &Session) -> Result<Option<i64>, Error>
     Ok(Some(integer(allowance)? - integer(session.used)?))
 }
 
-/// Returns the row of `portal_totals` for a session: its end and its remaining allowance. Fails with
-/// `IntegralValueOutOfRange` if a number does not fit in an INTEGER column.
+/// Returns the end of a session and its remaining allowance. Fails with `IntegralValueOutOfRange` if a number
+/// does not fit in an INTEGER column.
 fn total_of(session: &Session) -> Result<Total, Error>
     ensures { IfOk result (λ total. ends_row total ≡ total_row session.now) }
 {
@@ -82,27 +79,18 @@ fn insert_plans<S: Alter>(tx: &mut Transaction<'_, S>, plans: &[Plan]) -> Result
     Ok(())
 }
 
-/// Inserts the vouchers of a batch, in this order.
+/// Inserts the vouchers of a batch, in this order. None was redeemed.
 fn insert_vouchers<S: Alter>(
     tx: &mut Transaction<'_, S>,
     batch: &Id,
     codes: &[Code],
 ) -> Result<(), Error>
-    ensures { Writes S.Store (with_vouchers (new_vouchers batch.now 0 (map text_of codes.now)))
+    ensures { Writes S.Store (λ t. with_counts (new_counts (map text_of codes.now))
+        (with_vouchers (new_vouchers batch.now 0 (map text_of codes.now)) t))
         tx.old tx.new result }
 {
     for (place, code) in codes.iter().enumerate() {
         insert_voucher(tx, code, batch, place)?;
-    }
-    Ok(())
-}
-
-/// Inserts a count of 0 redemptions for each code.
-fn insert_counts<S: Alter>(tx: &mut Transaction<'_, S>, codes: &[Code]) -> Result<(), Error>
-    ensures { Writes S.Store (with_counts (new_counts (map text_of codes.now))) tx.old tx.new result }
-{
-    for code in codes {
-        insert_count(tx, code, 0)?;
     }
     Ok(())
 }
@@ -115,14 +103,12 @@ fn apply_load<S: Alter>(tx: &mut Transaction<'_, S>, c: &LoadChange) -> Result<(
     set_last_moment(tx, c.at)
 }
 
-/// Writes an issue: inserts the batch, its vouchers and their counts, and sets the time of the last
-/// command.
+/// Writes an issue: inserts the batch and its vouchers, and sets the time of the last command.
 fn apply_issue<S: Alter>(tx: &mut Transaction<'_, S>, c: &IssueChange) -> Result<(), Error>
     ensures { Writes S.Store (after_issue c.now) tx.old tx.new result }
 {
     insert_batch(tx, &c.batch)?;
     insert_vouchers(tx, &c.batch.id, c.codes.as_slice())?;
-    insert_counts(tx, c.codes.as_slice())?;
     set_last_moment(tx, c.at)
 }
 
@@ -134,8 +120,7 @@ fn apply_sell<S: Alter>(tx: &mut Transaction<'_, S>, c: &SellChange) -> Result<(
     set_last_moment(tx, c.at)
 }
 
-/// Writes the session of a redemption: sets the end of the running session, or inserts a new session and
-/// its total.
+/// Writes the session of a redemption: sets the end of the running session, or inserts a new session.
 fn extend_or_insert_session<S: Alter>(
     tx: &mut Transaction<'_, S>,
     c: &RedeemChange,
@@ -146,10 +131,7 @@ fn extend_or_insert_session<S: Alter>(
     let total = total_of(&c.session)?;
     match c.running {
         Some(_) => set_session_total(tx, &total),
-        None => {
-            insert_session(tx, &c.session, &c.voucher.plan.id)?;
-            insert_total(tx, &total)
-        }
+        None => insert_session(tx, &c.session, &c.voucher.plan.id, total.remaining),
     }
 }
 

@@ -19,7 +19,7 @@ ghost use Rattle.portal_tables_rows.specs.Creation.{
 use crate::inserts::insert_head;
 use crate::schema_versions::has_no_action_on_ours;
 use portal_tables_sql::our_indexes::{OUR_INDEXES, OurIndex};
-use portal_tables_sql::our_tables::{OUR_TABLES, OurTable};
+use portal_tables_sql::our_tables::{CURRENT_TABLES, OurTable};
 use portal_tables_sql::query::write;
 use portal_tables_sql::room::{has_autoincrement, has_sequence};
 use sqlite::{Alter, Connection, Error, Transaction};
@@ -52,7 +52,7 @@ fn create_indexes<S: Alter>(tx: &mut Transaction<'_, S>, indexes: &[OurIndex]) -
 pub(crate) fn create_empty_tables<S: Alter>(tx: &mut Transaction<'_, S>) -> Result<(), Error>
     ensures { Inside S.Store CreatesEmpty tx.old tx.new result }
 {
-    create_tables(tx, &OUR_TABLES)?;
+    create_tables(tx, &CURRENT_TABLES)?;
     create_indexes(tx, &OUR_INDEXES)?;
     Ok(())
 }
@@ -62,7 +62,7 @@ fn create_schema_inside<S: Alter>(tx: &mut Transaction<'_, S>) -> Result<(), Err
     ensures { Inside S.Store (λ old new. AreNamesFree old.now.schema → Builds old new) tx.old tx.new result }
 {
     create_empty_tables(tx)?;
-    insert_head(tx, 5)?;
+    insert_head(tx, 6)?;
     Ok(())
 }
 

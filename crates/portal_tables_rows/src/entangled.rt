@@ -9,12 +9,13 @@ ghost use Rattle.portal_tables_rows.specs.SchemaVersions.{
   is_on_ours,
   is_others_index,
   is_own_index,
+  names_current_index,
   names_our_index,
   names_ours,
 };
 ghost use Rattle.portal_tables_rows.specs.SchemaVersions.{refers_to_ours};
 
-use portal_tables_sql::our_indexes::OUR_INDEXES;
+use portal_tables_sql::our_indexes::{OLD_INDEX_NAME, OUR_INDEXES};
 use portal_tables_sql::our_tables::OUR_TABLES;
 use sqlite_schema::names::same_name;
 use sqlite_schema::schema::{Index, Schema, Table};
@@ -44,11 +45,18 @@ pub fn hangs_on_ours(table: &Table) -> bool
     !names_ours(table.name.as_slice()) && refers_to_ours(table)
 }
 
-/// Whether one of the product's indexes has this name.
+/// Whether one of the product's indexes, of this schema version, has this name.
+fn names_current_index(name: &[u8]) -> bool
+    ensures { result ≡ names_current_index name.now }
+{
+    OUR_INDEXES.iter().any(|ours| same_name(name, ours.name()))
+}
+
+/// Whether one of the product's indexes, of all schema versions, has this name.
 fn names_our_index(name: &[u8]) -> bool
     ensures { result ≡ names_our_index name.now }
 {
-    OUR_INDEXES.iter().any(|ours| same_name(name, ours.name()))
+    names_current_index(name) || same_name(name, OLD_INDEX_NAME)
 }
 
 /// Whether the index is one of the product's, or was made by a clause.

@@ -4,25 +4,30 @@
 ghost use Rattle.std.specs.Prelude.{◌<◌, ◌^◌, IfOk, IfSome, option_map};
 ghost use Rattle.portal_codes.specs.Code.{IsCode, text_of};
 ghost use Rattle.portal_model.specs.Device.{IsDevice, text_of_device};
-ghost use Rattle.portal_model.specs.Rows.{VoucherRow, SessionRow, CountRow, TotalRow};
+ghost use Rattle.sqlite_rules.specs.Lists.{Has};
+ghost use Rattle.portal_model.specs.Rows.{VoucherRow, SessionRow};
 ghost use Rattle.portal_tables_sql.specs.Finds.{Finds, FindsLast};
 ghost use Rattle.portal_tables_rows.specs.Contents.{HeadRow};
-ghost use Rattle.portal_tables_rows.specs.Foreign.{AreOwn, IsOwnBatch, IsOwnCount, IsOwnHead, IsOwnPlan};
+ghost use Rattle.portal_tables_rows.specs.Foreign.{AreOwn, IsOwnBatch, IsOwnHead, IsOwnPlan};
 ghost use Rattle.portal_tables_rows.specs.Foreign.{IsOwnSession, IsOwnTotal, IsOwnVoucher};
-ghost use Rattle.portal_tables_rows.specs.Steps.{ends_row};
-ghost use Rattle.portal_tables_rows.specs.Read.{head_read, voucher_read, session_read, count_read};
+ghost use Rattle.portal_tables_rows.specs.Read.{
+  head_read,
+  voucher_read,
+  voucher_count,
+  session_read,
+  session_total,
+};
 ghost use Rattle.portal_tables_rows.specs.Selects.{ReadsRow};
 
-use crate::column_values::{PrintedText, Total};
+use crate::column_values::PrintedText;
 use crate::queries::read_one;
-use crate::rows::{CountValue, HeadValue, RowError, SessionValue, VoucherValue};
+use crate::rows::{HeadValue, RowError, SessionValue, VoucherValue};
 use portal_codes::Code;
 use portal_model::name::{Device, Id};
 use portal_model::plan::Plan;
 use portal_model::record::Batch;
 use portal_tables_sql::statements::{
-    SELECT_BATCH, SELECT_COUNT, SELECT_HEAD, SELECT_LAST_SESSION, SELECT_PLAN, SELECT_SESSION,
-    SELECT_TOTAL, SELECT_VOUCHER,
+    SELECT_BATCH, SELECT_HEAD, SELECT_LAST_SESSION, SELECT_PLAN, SELECT_SESSION, SELECT_VOUCHER,
 };
 use sqlite::{Alter, Connection, params};
 
@@ -57,7 +62,7 @@ pub fn read_batch_row<S: Alter>(
     read_one(conn, SELECT_BATCH, params![id.text()])
 }
 
-/// Reads the row of the voucher with this code.
+/// Reads the row of the voucher with this code, with how often it was redeemed.
 pub fn read_voucher_row<S: Alter>(
     conn: &mut Connection<S>,
     code: &Code,
@@ -65,7 +70,7 @@ pub fn read_voucher_row<S: Alter>(
     ensures code { IsCode code.now }
     ensures reads { ReadsRow S.Store conn.old conn.new result
         (λ t found. Finds (λ (x : VoucherRow). x.code) (text_of code.now) t.vouchers
-        (option_map voucher_read found))
+        (option_map voucher_read found) × IfSome found (λ row. Has t.counts (voucher_count row)))
         (λ t. AreOwn IsOwnVoucher t.vouchers) }
 {
     let text = code.text();
@@ -78,7 +83,7 @@ pub fn read_voucher_row<S: Alter>(
     )
 }
 
-/// Reads the row of the session with this number.
+/// Reads the row of the session with this number, with its end and its remaining allowance.
 pub fn read_session_row<S: Alter>(
     conn: &mut Connection<S>,
     number: u64,
@@ -86,47 +91,15 @@ pub fn read_session_row<S: Alter>(
     requires { number < 2 ^ 63 }
     ensures of_row { IfOk result (λ found. IfSome found (λ row. IsDevice row.device)) }
     ensures reads { ReadsRow S.Store conn.old conn.new result
-        (λ t found. Finds (λ (x : SessionRow). x.number) number t.sessions (option_map session_read found))
-        (λ t. AreOwn IsOwnSession t.sessions) }
+        (λ t found. Finds (λ (x : SessionRow). x.number) number t.sessions (option_map session_read found)
+        × IfSome found (λ row. Has t.totals (session_total row)))
+        (λ t. AreOwn IsOwnSession t.sessions × AreOwn IsOwnTotal t.totals) }
 {
     read_one(conn, SELECT_SESSION, params![number as i64])
 }
 
-/// Reads how often the voucher with this code was redeemed.
-pub fn read_count_row<S: Alter>(
-    conn: &mut Connection<S>,
-    code: &Code,
-) -> Result<Option<CountValue>, RowError>
-    ensures { ReadsRow S.Store conn.old conn.new result
-        (λ t found. Finds (λ (x : CountRow). x.code) (text_of code.now) t.counts
-        (option_map count_read found))
-        (λ t. AreOwn IsOwnCount t.counts) }
-{
-    let text = code.text();
-    read_one(
-        conn,
-        SELECT_COUNT,
-        params![PrintedText {
-            bytes: text.as_bytes()
-        }],
-    )
-}
-
-/// Reads the row of `portal_totals` of the session with this number: its end, and its remaining bytes. None
-/// if there is no such row.
-pub fn read_total_row<S: Alter>(
-    conn: &mut Connection<S>,
-    number: u64,
-) -> Result<Option<Total>, RowError>
-    requires { number < 2 ^ 63 }
-    ensures { ReadsRow S.Store conn.old conn.new result
-        (λ t found. Finds (λ (x : TotalRow). x.number) number t.totals (option_map ends_row found))
-        (λ t. AreOwn IsOwnTotal t.totals) }
-{
-    read_one(conn, SELECT_TOTAL, params![number as i64])
-}
-
-/// Reads the row of the device's last session: the one with the greatest number.
+/// Reads the row of the device's last session, the one with the greatest number, with its end and its
+/// remaining allowance.
 pub fn read_last_session_row<S: Alter>(
     conn: &mut Connection<S>,
     device: &Device,
@@ -135,8 +108,9 @@ pub fn read_last_session_row<S: Alter>(
     ensures of_row { IfOk result (λ found. IfSome found (λ row. IsDevice row.device)) }
     ensures reads { ReadsRow S.Store conn.old conn.new result
         (λ t found. FindsLast (λ (x : SessionRow). x.device) (text_of_device device.now)
-        (λ (x : SessionRow). x.number) t.sessions (option_map session_read found))
-        (λ t. AreOwn IsOwnSession t.sessions) }
+        (λ (x : SessionRow). x.number) t.sessions (option_map session_read found)
+        × IfSome found (λ row. Has t.totals (session_total row)))
+        (λ t. AreOwn IsOwnSession t.sessions × AreOwn IsOwnTotal t.totals) }
 {
     let text = device.text();
     read_one(

@@ -6,15 +6,24 @@ ghost use Rattle.portal_model.specs.Device.{IsDevice};
 ghost use Rattle.portal_tables_sql.specs.Finds.{columns};
 ghost use Rattle.portal_tables_rows.specs.Contents.{head_cells, plan_cells, batch_cells, voucher_cells};
 ghost use Rattle.portal_tables_rows.specs.Contents.{session_cells, count_cells, total_cells};
+ghost use Rattle.portal_tables_rows.specs.Contents.{whole_voucher_cells, whole_session_cells};
 ghost use Rattle.portal_tables_rows.specs.Foreign.{IsOfOwn, IsOwnBatch, IsOwnCount, IsOwnHead, IsOwnPlan};
 ghost use Rattle.portal_tables_rows.specs.Foreign.{IsOwnSession, IsOwnTotal, IsOwnVoucher, NotForeign};
-ghost use Rattle.portal_tables_rows.specs.Read.{head_read, voucher_read, session_read, count_read};
+ghost use Rattle.portal_tables_rows.specs.Foreign.{IsOwnWholeSession, IsOwnWholeVoucher};
+ghost use Rattle.portal_tables_rows.specs.Read.{
+  head_read,
+  whole_voucher_read,
+  old_voucher_read,
+  whole_session_read,
+  old_session_read,
+  count_read,
+};
 ghost use Rattle.portal_tables_rows.specs.Steps.{ends_row};
 
 use crate::column_values::Total;
 use crate::rows::{
-    CountValue, HeadValue, RowError, SessionValue, VoucherValue, code_in, device_in, flag_in,
-    id_in, moment_in, moment_or_null_in,
+    CountValue, HeadValue, OldSession, OldVoucher, RowError, SessionValue, VoucherValue, code_in,
+    device_in, flag_in, id_in, moment_in, moment_or_null_in,
 };
 use portal_model::plan::Plan;
 use portal_model::record::Batch;
@@ -109,7 +118,30 @@ impl FromRow for Batch {
 }
 
 impl FromRow for VoucherValue {
-    ghost cells = { λ voucher. voucher_cells (voucher_read voucher) };
+    ghost cells = { λ voucher. whole_voucher_cells (whole_voucher_read voucher) };
+
+    ghost width = { 7 };
+
+    ghost proper = { λ _. Unit {0} };
+
+    ghost own = { IsOfOwn whole_voucher_cells IsOwnWholeVoucher };
+
+    /// Reads a row of `portal_vouchers`.
+    fn from_row(row: &Row) -> Result<VoucherValue, RowError> {
+        Ok(VoucherValue {
+            code: code_in(row, 0)?,
+            batch: id_in(row, 1)?,
+            place: row.get(2)?,
+            sold: moment_or_null_in(row, 3)?,
+            refunded: moment_or_null_in(row, 4)?,
+            amount: row.get(5)?,
+            redeemed: row.get(6)?,
+        })
+    }
+}
+
+impl FromRow for OldVoucher {
+    ghost cells = { λ voucher. voucher_cells (old_voucher_read voucher) };
 
     ghost width = { 6 };
 
@@ -117,9 +149,9 @@ impl FromRow for VoucherValue {
 
     ghost own = { IsOfOwn voucher_cells IsOwnVoucher };
 
-    /// Reads a row of `portal_vouchers`.
-    fn from_row(row: &Row) -> Result<VoucherValue, RowError> {
-        Ok(VoucherValue {
+    /// Reads a row of `portal_vouchers` without its count.
+    fn from_row(row: &Row) -> Result<OldVoucher, RowError> {
+        Ok(OldVoucher {
             code: code_in(row, 0)?,
             batch: id_in(row, 1)?,
             place: row.get(2)?,
@@ -131,7 +163,31 @@ impl FromRow for VoucherValue {
 }
 
 impl FromRow for SessionValue {
-    ghost cells = { λ session. session_cells (session_read session) };
+    ghost cells = { λ session. whole_session_cells (whole_session_read session) };
+
+    ghost width = { 8 };
+
+    ghost proper = { λ session. IsDevice session.device };
+
+    ghost own = { IsOfOwn whole_session_cells IsOwnWholeSession };
+
+    /// Reads a row of `portal_sessions`.
+    fn from_row(row: &Row) -> Result<SessionValue, RowError> {
+        Ok(SessionValue {
+            number: row.get(0)?,
+            device: device_in(row, 1)?,
+            plan: id_in(row, 2)?,
+            opened: moment_in(row, 3)?,
+            used: row.get(4)?,
+            closed: moment_or_null_in(row, 5)?,
+            ends: moment_or_null_in(row, 6)?,
+            remaining: row.get(7)?,
+        })
+    }
+}
+
+impl FromRow for OldSession {
+    ghost cells = { λ session. session_cells (old_session_read session) };
 
     ghost width = { 6 };
 
@@ -139,9 +195,9 @@ impl FromRow for SessionValue {
 
     ghost own = { IsOfOwn session_cells IsOwnSession };
 
-    /// Reads a row of `portal_sessions`.
-    fn from_row(row: &Row) -> Result<SessionValue, RowError> {
-        Ok(SessionValue {
+    /// Reads a row of `portal_sessions` without its total.
+    fn from_row(row: &Row) -> Result<OldSession, RowError> {
+        Ok(OldSession {
             number: row.get(0)?,
             device: device_in(row, 1)?,
             plan: id_in(row, 2)?,
@@ -179,7 +235,7 @@ impl FromRow for Total {
 
     ghost own = { IsOfOwn total_cells IsOwnTotal };
 
-    /// Reads a row of `portal_totals`.
+    /// Reads the end and the remaining allowance of a session.
     fn from_row(row: &Row) -> Result<Total, RowError> {
         Ok(Total {
             number: row.get(0)?,

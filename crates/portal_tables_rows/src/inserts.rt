@@ -2,18 +2,19 @@
 //! `IntegralValueOutOfRange`, and writes nothing, if a number does not fit in an INTEGER column.
 
 ghost use Rattle.portal_codes.specs.Code.{text_of};
+ghost use Rattle.portal_tables_rows.specs.Read.{whole_voucher_read, whole_session_read};
 ghost use Rattle.portal_tables_rows.specs.Steps.{
   Writes,
-  count_row,
-  ends_row,
   first_head,
   granted_row,
-  new_voucher,
+  new_whole_voucher,
+  opened_whole,
 };
-ghost use Rattle.portal_tables_rows.specs.Steps.{opened_row, with_batch, with_count, with_grant, with_head};
-ghost use Rattle.portal_tables_rows.specs.Steps.{with_plan, with_session, with_total, with_voucher};
+ghost use Rattle.portal_tables_rows.specs.Steps.{with_batch, with_grant, with_head, with_plan};
+ghost use Rattle.portal_tables_rows.specs.Steps.{with_whole_voucher, with_whole_session};
 
-use crate::column_values::{PrintedText, Total, integer, seconds_or_null};
+use crate::column_values::{PrintedText, integer, integer_or_null, seconds_or_null};
+use crate::rows::{SessionValue, VoucherValue};
 use portal_codes::Code;
 use portal_model::moment::Moment;
 use portal_model::name::Id;
@@ -21,8 +22,8 @@ use portal_model::plan::Plan;
 use portal_model::record::{Batch, Session};
 use portal_tables_sql::query::write;
 use portal_tables_sql::statements::{
-    INSERT_BATCH, INSERT_COUNT, INSERT_GRANT, INSERT_HEAD, INSERT_PLAN, INSERT_SESSION,
-    INSERT_TOTAL, INSERT_VOUCHER,
+    INSERT_BATCH, INSERT_GRANT, INSERT_HEAD, INSERT_PLAN, INSERT_SESSION, INSERT_VOUCHER,
+    INSERT_WHOLE_SESSION, INSERT_WHOLE_VOUCHER,
 };
 use sqlite::{Alter, Error, Transaction, params};
 
@@ -65,14 +66,14 @@ pub(crate) fn insert_batch<S: Alter>(
     )
 }
 
-/// Inserts a voucher at its place in the batch.
+/// Inserts a voucher at its place in the batch, which was not redeemed.
 pub(crate) fn insert_voucher<S: Alter>(
     tx: &mut Transaction<'_, S>,
     code: &Code,
     batch: &Id,
     place: usize,
 ) -> Result<(), Error>
-    ensures { Writes S.Store (with_voucher (new_voucher batch.now place (text_of code.now)))
+    ensures { Writes S.Store (with_whole_voucher (new_whole_voucher batch.now place (text_of code.now)))
         tx.old tx.new result }
 {
     let text = code.text();
@@ -89,13 +90,40 @@ pub(crate) fn insert_voucher<S: Alter>(
     )
 }
 
-/// Inserts a session that is opened on this plan.
+/// Inserts a voucher with all its columns.
+pub(crate) fn insert_whole_voucher<S: Alter>(
+    tx: &mut Transaction<'_, S>,
+    voucher: &VoucherValue,
+) -> Result<(), Error>
+    ensures { Writes S.Store (with_whole_voucher (whole_voucher_read voucher.now)) tx.old tx.new result }
+{
+    let text = voucher.code.text();
+    write(
+        tx,
+        INSERT_WHOLE_VOUCHER,
+        params![
+            PrintedText {
+                bytes: text.as_bytes()
+            },
+            voucher.batch.text(),
+            integer(voucher.place)?,
+            seconds_or_null(voucher.sold),
+            seconds_or_null(voucher.refunded),
+            integer_or_null(voucher.amount)?,
+            integer(voucher.redeemed)?
+        ],
+    )
+}
+
+/// Inserts a session that is opened on this plan, with its end and this remaining allowance.
 pub(crate) fn insert_session<S: Alter>(
     tx: &mut Transaction<'_, S>,
     session: &Session,
     plan: &Id,
+    remaining: Option<i64>,
 ) -> Result<(), Error>
-    ensures { Writes S.Store (with_session (opened_row session.now plan.now)) tx.old tx.new result }
+    ensures { Writes S.Store (with_whole_session (opened_whole session.now plan.now remaining))
+        tx.old tx.new result }
 {
     let text = session.device.text();
     write(
@@ -105,7 +133,33 @@ pub(crate) fn insert_session<S: Alter>(
             integer(session.number)?,
             PrintedText { bytes: &text },
             plan.text(),
-            session.opened.get() as i64
+            session.opened.get() as i64,
+            seconds_or_null(session.ends),
+            remaining
+        ],
+    )
+}
+
+/// Inserts a session with all its columns.
+pub(crate) fn insert_whole_session<S: Alter>(
+    tx: &mut Transaction<'_, S>,
+    session: &SessionValue,
+) -> Result<(), Error>
+    ensures { Writes S.Store (with_whole_session (whole_session_read session.now)) tx.old tx.new result }
+{
+    let text = session.device.text();
+    write(
+        tx,
+        INSERT_WHOLE_SESSION,
+        params![
+            integer(session.number)?,
+            PrintedText { bytes: &text },
+            session.plan.text(),
+            session.opened.get() as i64,
+            integer(session.used)?,
+            seconds_or_null(session.closed),
+            seconds_or_null(session.ends),
+            session.remaining
         ],
     )
 }
@@ -136,39 +190,6 @@ pub(crate) fn insert_grant<S: Alter>(
             plan.seconds,
             plan.bytes as i64
         ],
-    )
-}
-
-/// Inserts how often a voucher was redeemed.
-pub fn insert_count<S: Alter>(
-    tx: &mut Transaction<'_, S>,
-    code: &Code,
-    redeemed: u64,
-) -> Result<(), Error>
-    ensures { Writes S.Store (with_count (count_row (text_of code.now) redeemed)) tx.old tx.new result }
-{
-    let text = code.text();
-    write(
-        tx,
-        INSERT_COUNT,
-        params![
-            PrintedText {
-                bytes: text.as_bytes()
-            },
-            integer(redeemed)?
-        ],
-    )
-}
-
-/// Inserts the end of a session and its remaining allowance.
-pub fn insert_total<S: Alter>(tx: &mut Transaction<'_, S>, total: &Total) -> Result<(), Error>
-    ensures { Writes S.Store (with_total (ends_row total.now)) tx.old tx.new result }
-{
-    let ends = seconds_or_null(total.ends);
-    write(
-        tx,
-        INSERT_TOTAL,
-        params![integer(total.number)?, ends, total.remaining],
     )
 }
 

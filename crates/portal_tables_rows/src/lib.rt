@@ -16,6 +16,7 @@ pub mod from_row;
 pub mod from_versions;
 pub mod grants;
 pub mod inserts;
+mod joins;
 mod keys;
 pub mod lists;
 pub mod migrations;

@@ -3,7 +3,7 @@
 
 ghost use Rattle.std.specs.Prelude.{◌≡◌, IfOk, IsSome, List, map, filter, true, bytes_eq, All};
 ghost use Rattle.portal_codes.specs.Code.{IsCode, text_of};
-ghost use Rattle.portal_model.specs.Rows.{VoucherRow, TotalRow};
+ghost use Rattle.portal_model.specs.Rows.{VoucherRow};
 ghost use Rattle.portal_tables_rows.specs.Foreign.{AreOwn, IsOwnRefund, IsOwnTotal, IsOwnVoucher, NotForeign};
 ghost use Rattle.portal_tables_rows.specs.Foreign.{IsOfOwn};
 ghost use Rattle.portal_tables_rows.specs.Selects.{ReadsRow};
@@ -18,12 +18,12 @@ ghost use Rattle.portal_tables_rows.specs.Lists.{
   by_place,
   by_refund,
   by_sale,
-  by_number,
   sale_columns,
   sale_read,
 };
 ghost use Rattle.portal_tables_rows.specs.Lists.{refund_columns, refund_read};
-ghost use Rattle.portal_tables_rows.specs.Read.{voucher_read};
+ghost use Rattle.portal_tables_rows.specs.Audit.{AreAmong};
+ghost use Rattle.portal_tables_rows.specs.Read.{voucher_read, voucher_count};
 ghost use Rattle.portal_tables_rows.specs.Steps.{ends_row};
 
 use crate::column_values::Total;
@@ -164,7 +164,7 @@ fn refunds_of_vouchers(
     Ok(refunds)
 }
 
-/// Lists the vouchers of a batch, ordered by place.
+/// Lists the vouchers of a batch, ordered by place, each with how often it was redeemed.
 pub fn list_batch_vouchers<S: Alter>(
     alloc: Global,
     conn: &mut Connection<S>,
@@ -172,7 +172,7 @@ pub fn list_batch_vouchers<S: Alter>(
 ) -> Result<Vec<VoucherValue>, RowError>
     ensures { ReadsRow S.Store conn.old conn.new result
         (λ t vouchers. Lists (λ v. bytes_eq batch.now v.batch) by_place t.vouchers
-        (map voucher_read vouchers.items))
+        (map voucher_read vouchers.items) × AreAmong (map voucher_count vouchers.items) t.counts)
         (λ t. AreOwn IsOwnVoucher t.vouchers) }
 {
     read_many(alloc, conn, SELECT_BATCH_VOUCHERS, params![batch.text()])
@@ -194,16 +194,15 @@ pub fn list_batch_codes<S: Alter>(
     Ok(codes_of_vouchers(alloc, &vouchers)?)
 }
 
-/// Lists the numbers of the sessions that may be open at the time `at`, ascending. Every other session
-/// has ended by then or has nothing left of its allowance.
+/// Lists the numbers of the sessions that may be open at the time `at`, in the order of the rows. Every other
+/// session has ended by then or has nothing left of its allowance.
 pub fn list_open_numbers<S: Alter>(
     alloc: Global,
     conn: &mut Connection<S>,
     at: Moment,
 ) -> Result<Vec<u64>, RowError>
     ensures { ReadsRow S.Store conn.old conn.new result
-        (λ t numbers. (totals : List TotalRow) × Lists (λ _. true) by_number t.totals totals
-        × (numbers.items ≡ numbers_open at totals))
+        (λ t numbers. numbers.items ≡ numbers_open at t.totals)
         (λ t. AreOwn IsOwnTotal t.totals) }
 {
     let totals: Vec<Total> = read_many(alloc, conn, SELECT_ALL_TOTALS, &[])?;

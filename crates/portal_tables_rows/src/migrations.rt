@@ -1,33 +1,36 @@
 //! The transaction that takes the tables of an older schema version to those of this version. SQLite as we
 //! have it alters no table and renames none, so all of them are made anew.
 
-ghost use Rattle.std.specs.Prelude.{◌≡◌, false};
+ghost use Rattle.std.specs.Prelude.{◌≡◌, false, map};
 ghost use Rattle.portal_tables_sql.specs.Commits.{Commits};
 ghost use Rattle.portal_tables_sql.specs.Inside.{Inside};
 ghost use Rattle.portal_tables_sql.specs.States.{IsUndone};
 ghost use Rattle.portal_tables_rows.specs.Creation.{AreNamesFree};
-ghost use Rattle.portal_tables_rows.specs.Steps.{Writes, with_counts};
+ghost use Rattle.portal_tables_rows.specs.Read.{whole_session_read, whole_voucher_read};
+ghost use Rattle.portal_tables_rows.specs.Steps.{Writes};
 ghost use Rattle.portal_tables_rows.specs.Migrations.{
   CommitsFrom,
   IsReadFree,
   MayCommitFrom,
   Rebuilds,
+  after_migration,
+  copied_tables,
   tables_of,
 };
 ghost use Rattle.portal_tables_rows.specs.Migrations.{
-  with_empty_tables,
-  with_totals,
-  with_counters,
+  with_copied,
+  with_whole,
+  with_whole_sessions,
+  with_whole_vouchers,
 };
-ghost use Rattle.portal_tables_rows.specs.Migrations.{after_migration, counts_read, totals_read};
 
-use crate::column_values::Total;
 use crate::copies::{WholeTable, insert_tables};
 use crate::creation::{create_empty_tables, drop_tables};
-use crate::inserts::{insert_count, insert_total};
-use crate::rows::CountValue;
+use crate::inserts::{insert_whole_session, insert_whole_voucher};
+use crate::rows::{SessionValue, VoucherValue};
 use crate::schema_versions::OldSchema;
 use crate::updates::set_schema_version;
+use portal_tables_sql::copied_tables::CopiedTable;
 use portal_tables_sql::our_tables::OurTable;
 use sqlite::{Alter, Connection, Error, Transaction};
 
@@ -53,8 +56,8 @@ const SECOND_TABLES: [OurTable; 8] = [
     OurTable::Head,
 ];
 
-/// Those of the schema versions from 3 on.
-const ALL_TABLES: [OurTable; 9] = [
+/// Those of the schema versions 3 to 5.
+const THIRD_TABLES: [OurTable; 9] = [
     OurTable::Requests,
     OurTable::Totals,
     OurTable::Counts,
@@ -66,6 +69,34 @@ const ALL_TABLES: [OurTable; 9] = [
     OurTable::Head,
 ];
 
+/// Those of this schema version.
+const SIXTH_TABLES: [OurTable; 7] = [
+    OurTable::Requests,
+    OurTable::Grants,
+    OurTable::Sessions,
+    OurTable::Vouchers,
+    OurTable::Batches,
+    OurTable::Plans,
+    OurTable::Head,
+];
+
+/// The tables of the schema versions 1 and 2 whose rows are copied.
+const FIRST_COPIED: [CopiedTable; 4] = [
+    CopiedTable::Grants,
+    CopiedTable::Batches,
+    CopiedTable::Plans,
+    CopiedTable::Head,
+];
+
+/// Those of the schema versions from 3 on.
+const THIRD_COPIED: [CopiedTable; 5] = [
+    CopiedTable::Requests,
+    CopiedTable::Grants,
+    CopiedTable::Batches,
+    CopiedTable::Plans,
+    CopiedTable::Head,
+];
+
 /// The tables of a schema version, each before those that it refers to.
 pub fn tables_of(from: OldSchema) -> &'static [OurTable]
     ensures { result.now ≡ tables_of from }
@@ -73,19 +104,30 @@ pub fn tables_of(from: OldSchema) -> &'static [OurTable]
     match from {
         OldSchema::First => &FIRST_TABLES,
         OldSchema::Second => &SECOND_TABLES,
-        OldSchema::Third | OldSchema::Fourth | OldSchema::Fifth => &ALL_TABLES,
+        OldSchema::Third | OldSchema::Fourth | OldSchema::Fifth => &THIRD_TABLES,
+        OldSchema::Sixth => &SIXTH_TABLES,
+    }
+}
+
+/// The tables of a schema version whose rows are copied as they are.
+pub fn copied_tables(from: OldSchema) -> &'static [CopiedTable]
+    ensures { result.now ≡ copied_tables from }
+{
+    match from {
+        OldSchema::First | OldSchema::Second => &FIRST_COPIED,
+        OldSchema::Third | OldSchema::Fourth | OldSchema::Fifth | OldSchema::Sixth => &THIRD_COPIED,
     }
 }
 
 /// Drops the tables of the schema version `from`, creates those of this version, and inserts the rows
-/// that were read. It does not commit.
+/// that were read to be copied. It does not commit.
 fn rebuild_tables<S: Alter>(
     tx: &mut Transaction<'_, S>,
     from: OldSchema,
     read: &[WholeTable],
 ) -> Result<(), Error>
     ensures { Inside S.Store (λ old new. AreNamesFree old.now.schema
-        → Rebuilds from read.now (with_empty_tables from) old new)
+        → Rebuilds from read.now (with_copied from) old new)
         tx.old tx.new result }
 {
     drop_tables(tx, tables_of(from))?;
@@ -94,81 +136,86 @@ fn rebuild_tables<S: Alter>(
     Ok(())
 }
 
-/// Inserts the counts of vouchers, in this order.
-fn insert_all_counts<S: Alter>(
+/// Inserts these vouchers with their counts, in this order.
+fn insert_whole_vouchers<S: Alter>(
     tx: &mut Transaction<'_, S>,
-    kept: &[CountValue],
+    vouchers: &[VoucherValue],
 ) -> Result<(), Error>
-    ensures { Writes S.Store (with_counts (counts_read kept.now)) tx.old tx.new result }
+    ensures { Writes S.Store (with_whole_vouchers (map whole_voucher_read vouchers.now))
+        tx.old tx.new result }
 {
-    for count in kept {
-        insert_count(tx, &count.code, count.redeemed)?;
+    for voucher in vouchers {
+        insert_whole_voucher(tx, voucher)?;
     }
     Ok(())
 }
 
-/// Inserts the ends of sessions and their remaining allowances, in this order.
-fn insert_totals<S: Alter>(tx: &mut Transaction<'_, S>, totals: &[Total]) -> Result<(), Error>
-    ensures { Writes S.Store (with_totals (totals_read totals.now)) tx.old tx.new result }
+/// Inserts these sessions with their totals, in this order.
+fn insert_whole_sessions<S: Alter>(
+    tx: &mut Transaction<'_, S>,
+    sessions: &[SessionValue],
+) -> Result<(), Error>
+    ensures { Writes S.Store (with_whole_sessions (map whole_session_read sessions.now))
+        tx.old tx.new result }
 {
-    for total in totals {
-        insert_total(tx, total)?;
+    for session in sessions {
+        insert_whole_session(tx, session)?;
     }
     Ok(())
 }
 
-/// Inserts these counters: the counts of vouchers, then the totals of sessions.
-fn insert_counters<S: Alter>(
+/// Inserts these vouchers and these sessions.
+fn insert_whole_rows<S: Alter>(
     tx: &mut Transaction<'_, S>,
-    kept: &[CountValue],
-    totals: &[Total],
+    vouchers: &[VoucherValue],
+    sessions: &[SessionValue],
 ) -> Result<(), Error>
-    ensures { Writes S.Store (with_counters kept.now totals.now) tx.old tx.new result }
+    ensures { Writes S.Store (with_whole vouchers.now sessions.now) tx.old tx.new result }
 {
-    insert_all_counts(tx, kept)?;
-    insert_totals(tx, totals)?;
+    insert_whole_vouchers(tx, vouchers)?;
+    insert_whole_sessions(tx, sessions)?;
     Ok(())
 }
 
-/// Makes the tables anew with the rows that were read, inserts the counters and sets the schema version,
-/// inside a transaction. It does not commit.
+/// Makes the tables anew with the rows that were read, inserts the vouchers and the sessions, and sets the
+/// schema version, inside a transaction. It does not commit.
 fn migrate_inside<S: Alter>(
     tx: &mut Transaction<'_, S>,
     from: OldSchema,
     read: &[WholeTable],
-    kept: &[CountValue],
-    totals: &[Total],
+    vouchers: &[VoucherValue],
+    sessions: &[SessionValue],
 ) -> Result<(), Error>
     ensures { Inside S.Store (λ old new. AreNamesFree old.now.schema
-        → Rebuilds from read.now (after_migration from kept.now totals.now) old new)
+        → Rebuilds from read.now (after_migration from vouchers.now sessions.now) old new)
         tx.old tx.new result }
 {
     rebuild_tables(tx, from, read)?;
-    insert_counters(tx, kept, totals)?;
-    set_schema_version(tx, 5)?;
+    insert_whole_rows(tx, vouchers, sessions)?;
+    set_schema_version(tx, 6)?;
     Ok(())
 }
 
 /// Migrates to this schema version in one transaction: it makes the tables anew with the rows that were
-/// read of those of the version `from`, inserts these counters in this order, and sets the schema version.
-/// On an error the database is as it was while the connection is open; a crash state may have the whole
-/// change.
+/// read of those of the version `from`, inserts these vouchers and these sessions in this order, and sets the
+/// schema version. On an error the database is as it was while the connection is open; a crash state may have
+/// the whole change.
 pub fn commit_migration<S: Alter>(
     conn: &mut Connection<S>,
     from: OldSchema,
     read: &[WholeTable],
-    kept: &[CountValue],
-    totals: &[Total],
+    vouchers: &[VoucherValue],
+    sessions: &[SessionValue],
 ) -> Result<(), Error>
     requires { conn.old.in_transaction ≡ false }
     ensures { Commits S.Store
-        (CommitsFrom from (IsReadFree from read.now) (after_migration from kept.now totals.now))
+        (CommitsFrom from (IsReadFree from read.now) (after_migration from vouchers.now sessions.now))
         (λ old new. AreNamesFree old.now.schema → IsUndone old new)
-        (MayCommitFrom from (IsReadFree from read.now) (after_migration from kept.now totals.now))
+        (MayCommitFrom from (IsReadFree from read.now) (after_migration from vouchers.now sessions.now))
         conn.old conn.new result }
 {
     let mut tx = conn.transaction();
-    migrate_inside(&mut tx, from, read, kept, totals)?;
+    migrate_inside(&mut tx, from, read, vouchers, sessions)?;
     tx.commit()?;
     Ok(())
 }

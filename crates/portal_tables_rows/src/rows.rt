@@ -73,7 +73,7 @@ pub struct HeadValue {
     pub sessions: u64,
 }
 
-/// A row of `portal_vouchers`. `amount` is the refund in hundredths.
+/// A row of `portal_vouchers`. `amount` is the refund in hundredths, and `redeemed` how often it was redeemed.
 #[derive(Clone, Copy, Debug, PartialEq, Eq)]
 pub struct VoucherValue {
     pub code: Code,
@@ -82,9 +82,22 @@ pub struct VoucherValue {
     pub sold: Option<Moment>,
     pub refunded: Option<Moment>,
     pub amount: Option<u64>,
+    pub redeemed: u64,
 }
 
-/// A row of `portal_sessions`. `used` is in bytes.
+/// A row of `portal_vouchers` of a schema version up to 5. `amount` is the refund in hundredths.
+#[derive(Clone, Copy, Debug, PartialEq, Eq)]
+pub struct OldVoucher {
+    pub code: Code,
+    pub batch: Id,
+    pub place: u64,
+    pub sold: Option<Moment>,
+    pub refunded: Option<Moment>,
+    pub amount: Option<u64>,
+}
+
+/// A row of `portal_sessions`. `used` is in bytes, and `remaining` the allowance that remains, which is below 0
+/// if more was used.
 #[derive(Clone, Copy, Debug, PartialEq, Eq)]
 pub struct SessionValue {
     pub number: u64,
@@ -93,9 +106,22 @@ pub struct SessionValue {
     pub opened: Moment,
     pub used: u64,
     pub closed: Option<Moment>,
+    pub ends: Option<Moment>,
+    pub remaining: Option<i64>,
 }
 
-/// A row of `portal_counts`: how often a voucher was redeemed.
+/// A row of `portal_sessions` of a schema version up to 5. `used` is in bytes.
+#[derive(Clone, Copy, Debug, PartialEq, Eq)]
+pub struct OldSession {
+    pub number: u64,
+    pub device: Device,
+    pub plan: Id,
+    pub opened: Moment,
+    pub used: u64,
+    pub closed: Option<Moment>,
+}
+
+/// How often a voucher was redeemed: a row of `portal_counts`, which the schema versions 2 to 5 have.
 #[derive(Clone, Copy, Debug, PartialEq, Eq)]
 pub struct CountValue {
     pub code: Code,

@@ -1,6 +1,6 @@
 //! Finds which of the product's tables a schema has, and reads the schema version from the head row.
 
-ghost use Rattle.std.specs.Prelude.{◌≡◌, ℕ, [], true, false, IsTrue, OnErr, IfOk, IfErr, IfSome, IfNone};
+ghost use Rattle.std.specs.Prelude.{◌≡◌, ℕ, [], false, true, IsTrue, OnErr, IfOk, IfErr, IfSome, IfNone};
 ghost use Rattle.std.specs.List.{list_any};
 ghost use Rattle.sqlite.specs.Held.{state};
 ghost use Rattle.sqlite.specs.State.{HasCleanDisk, IsUnchanged, Survives};
@@ -8,6 +8,7 @@ ghost use Rattle.sqlite.specs.declared.error.Error.TheVariants.{SqlInputError};
 ghost use Rattle.sqlite_resolve.specs.declared.error.CompileError.{CompileError};
 ghost use Rattle.portal_tables_sql.specs.States.{IsUndone};
 ghost use Rattle.portal_tables_sql.specs.Indexes.{our_indexes};
+ghost use Rattle.portal_tables_sql.specs.Tables.{Together};
 ghost use Rattle.portal_tables_rows.specs.Holds.{TablePlaces, TablesExist, this_schema_version};
 ghost use Rattle.portal_tables_rows.specs.SchemaVersions.{
   is_name_taken,
@@ -26,7 +27,7 @@ ghost use Rattle.portal_tables_rows.specs.SchemaVersions.{
 ghost use Rattle.portal_tables_rows.specs.SchemaVersions.{IsOneRow};
 
 use portal_tables_sql::our_indexes::{OUR_INDEXES, OurIndex};
-use portal_tables_sql::our_tables::OUR_TABLES;
+use portal_tables_sql::our_tables::{CURRENT_TABLES, OUR_TABLES};
 use portal_tables_sql::room::{has_no_action_on, has_table};
 use portal_tables_sql::statements::SELECT_SCHEMA_VERSION;
 use sqlite::types::ValueRef;
@@ -34,7 +35,7 @@ use sqlite::{Alter, Connection, Error, Row};
 use sqlite_schema::names::same_name;
 use sqlite_schema::schema::{Index, Schema};
 
-/// A schema version from which a database is migrated. `Fifth` is this version, where one of its indexes
+/// A schema version from which a database is migrated. `Sixth` is this version, where one of its indexes
 /// is missing.
 #[derive(Clone, Copy, Debug, PartialEq, Eq)]
 pub enum OldSchema {
@@ -43,6 +44,7 @@ pub enum OldSchema {
     Third,
     Fourth,
     Fifth,
+    Sixth,
 }
 
 /// Whether a table or a view has this name.
@@ -70,16 +72,17 @@ pub fn has_no_action_on_ours(schema: &Schema) -> bool
         .all(|table| has_no_action_on(schema, table.name()))
 }
 
-/// Whether each of the product's tables exists.
+/// Whether each table of this schema version exists.
 fn has_our_tables(schema: &Schema) -> bool
     ensures { result ≡ has_our_tables schema.now }
 {
-    OUR_TABLES
+    CURRENT_TABLES
         .iter()
         .all(|table| has_table(schema, table.name()))
 }
 
-/// Whether each of the product's tables exists and no foreign key acts on one of them.
+/// Whether each table of this schema version exists, and no foreign key acts on one of the product's table
+/// names.
 pub fn is_usable_schema(schema: &Schema) -> bool
     ensures { result ≡ is_usable_schema schema.now }
 {
@@ -115,7 +118,7 @@ fn has_our_index(schema: &Schema, ours: OurIndex) -> bool
     }
 }
 
-/// Whether the schema has each of the product's indexes.
+/// Whether the schema has each index of this schema version.
 fn has_our_indexes(schema: &Schema) -> bool
     ensures { result ≡ is_indexed schema.now }
 {
@@ -126,8 +129,8 @@ fn has_our_indexes(schema: &Schema) -> bool
 pub fn is_indexed(schema: &Schema) -> bool
     ensures test { result ≡ is_indexed schema.now }
     ensures index { IsTrue result → (places : TablePlaces)
-        → TablesExist false this_schema_version [] schema.now places
-        → TablesExist false this_schema_version our_indexes schema.now places }
+        → TablesExist Together this_schema_version [] schema.now places
+        → TablesExist Together this_schema_version our_indexes schema.now places }
 {
     let are_made = has_our_indexes(schema);
     are_made

@@ -8,7 +8,7 @@ ghost use Rattle.portal_model.specs.Change.{plan_among};
 ghost use Rattle.portal_model.specs.History.{limit_or_none};
 ghost use Rattle.portal_model.specs.Rows.{count_from, remaining_of, total_from};
 ghost use Rattle.portal_tables_rows.specs.Foreign.{IsMomentIfSome, NotForeign};
-ghost use Rattle.portal_tables_rows.specs.Read.{voucher_read, session_read, count_read};
+ghost use Rattle.portal_tables_rows.specs.Read.{old_voucher_read, old_session_read, count_read};
 ghost use Rattle.portal_tables_rows.specs.Steps.{ends_row};
 ghost use Rattle.portal_codes.specs.Code.{IsCode};
 ghost use Rattle.portal_tables_rows.specs.Sums.{
@@ -23,7 +23,7 @@ ghost use Rattle.portal_tables_rows.specs.Sums.{nothing_given};
 
 use crate::column_values::Total;
 use crate::grants::GrantValue;
-use crate::rows::{CountValue, RowError, SessionValue, VoucherValue};
+use crate::rows::{CountValue, OldSession, OldVoucher, RowError};
 use portal_codes::Code;
 use portal_model::moment::Moment;
 use portal_model::name::Id;
@@ -69,12 +69,12 @@ pub(crate) fn uses_of_code(uses: &HashMap<Code, u64>, code: &Code) -> u64
 /// memory.
 pub fn sum_counts(
     alloc: Global,
-    vouchers: &[VoucherValue],
+    vouchers: &[OldVoucher],
     grants: &[GrantValue],
 ) -> Result<Vec<CountValue>, RowError>
     ensures sums { IfOk result
         (λ counts. map count_read counts.items ≡ map (count_from (map grant_read grants.now))
-        (map voucher_read vouchers.now)) }
+        (map old_voucher_read vouchers.now)) }
     ensures memory { NotForeign result }
 {
     let uses = count_uses_by_code(alloc, grants)?;
@@ -186,13 +186,13 @@ fn remainder_of(plan: &Plan, used: u64, bytes: u64) -> Result<Option<i64>, RowEr
 
 /// Computes the end of a session and its remaining allowance, from its plan and what it was given. There
 /// are no limits if no plan has the session's plan id.
-fn total_of_session(plans: &[Plan], session: &SessionValue, given: Given) -> Result<Total, RowError>
+fn total_of_session(plans: &[Plan], session: &OldSession, given: Given) -> Result<Total, RowError>
     ensures total { IfOk result
         (λ total. (grants : List _) → given ≡ given_to grants session.now.number
-        → ends_row total ≡ total_from (rows_for_sums plans.now grants) (session_read session.now)) }
+        → ends_row total ≡ total_from (rows_for_sums plans.now grants) (old_session_read session.now)) }
     ensures kept { given.bytes < 2 ^ 63 → session.now.used < 2 ^ 63 → (grants : List _)
         → given ≡ given_to grants session.now.number
-        → IsMomentIfSome (total_from (rows_for_sums plans.now grants) (session_read session.now)).ends
+        → IsMomentIfSome (total_from (rows_for_sums plans.now grants) (old_session_read session.now)).ends
         → NotForeign result }
 {
     let Some(plan) = first_plan_with(plans, &session.plan) else {
@@ -214,13 +214,14 @@ fn total_of_session(plans: &[Plan], session: &SessionValue, given: Given) -> Res
 pub fn sum_totals(
     alloc: Global,
     plans: &[Plan],
-    sessions: &[SessionValue],
+    sessions: &[OldSession],
     grants: &[GrantValue],
 ) -> Result<Vec<Total>, RowError>
     ensures sums { IfOk result
         (λ totals. map ends_row totals.items ≡ map
-        (total_from (rows_for_sums plans.now (map grant_read grants.now))) (map session_read sessions.now)) }
-    ensures kept { SumsFit plans.now (map session_read sessions.now) (map grant_read grants.now)
+        (total_from (rows_for_sums plans.now (map grant_read grants.now)))
+        (map old_session_read sessions.now)) }
+    ensures kept { SumsFit plans.now (map old_session_read sessions.now) (map grant_read grants.now)
         → NotForeign result }
 {
     let given = sum_given_by_session(alloc, grants)?;

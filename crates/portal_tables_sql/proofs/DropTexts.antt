@@ -1,7 +1,7 @@
 -- The texts that drop the tables, under any schema.
 use Rattle.portal_tables_sql.proofs.Common.{refl}
 use Rattle.portal_tables_sql.proofs.Drops.{IsDrop}
-use Rattle.portal_tables_sql.specs.Copies.{drop_of}
+use Rattle.portal_tables_sql.specs.Tables.{drop_of}
 use Rattle.portal_tables_sql.specs.Tables.{name_of}
 use Rattle.portal_tables_sql.specs.declared.our_tables.OurTable.{OurTable}
 use Rattle.portal_tables_sql.specs.declared.our_tables.OurTable.TheVariants as our

@@ -78,15 +78,6 @@ makes_index by.GrantsByCode = record {
   makes = λ schema at tree exists base. simp (exists.named, exists.there) refl;
   whole = refl;
 }
-makes_index by.CountsByCode = record {
-  statement = _;
-  text = record { parsed = _; read = refl; is = refl; timeless = refl; counted = refl };
-  name = (described_index by.CountsByCode).name;
-  untimed = λ schema. refl;
-  unshown = λ schema base. refl;
-  makes = λ schema at tree exists base. simp (exists.named, exists.there) refl;
-  whole = refl;
-}
 makes_index by.RequestsByKey = record {
   statement = _;
   text = record { parsed = _; read = refl; is = refl; timeless = refl; counted = refl };
@@ -118,7 +109,6 @@ index_defined by.VouchersByCode tree = (_, refl)
 index_defined by.VouchersByBatch tree = (_, refl)
 index_defined by.SessionsByDevice tree = (_, refl)
 index_defined by.GrantsByCode tree = (_, refl)
-index_defined by.CountsByCode tree = (_, refl)
 index_defined by.RequestsByKey tree = (_, refl)
 
 pub index_names_itself : (x : OurIndex) → same_name (described_index x).name (described_index x).name ≡ true
@@ -130,5 +120,4 @@ index_names_itself by.VouchersByCode = refl
 index_names_itself by.VouchersByBatch = refl
 index_names_itself by.SessionsByDevice = refl
 index_names_itself by.GrantsByCode = refl
-index_names_itself by.CountsByCode = refl
 index_names_itself by.RequestsByKey = refl

@@ -4,9 +4,9 @@ use Rattle.portal_tables_sql.proofs.Common.{col}
 use Rattle.portal_tables_sql.proofs.Common.{Schema, Values, Insert, TableExists}
 use Rattle.portal_tables_sql.proofs.Texts.{Means, means_is}
 use Rattle.portal_tables_sql.proofs.Selects.{insert_into}
-use Rattle.portal_tables_sql.specs.Tables.{head, plans, batches, vouchers, sessions, grants, counts, totals}
+use Rattle.portal_tables_sql.specs.Tables.{head, plans, batches, vouchers, sessions, grants}
 use Rattle.portal_tables_sql.specs.Tables.{head_name, plans_name, batches_name, vouchers_name, sessions_name}
-use Rattle.portal_tables_sql.specs.Tables.{grants_name, counts_name, totals_name}
+use Rattle.portal_tables_sql.specs.Tables.{grants_name}
 use Rattle.sqlite_tied.specs.Compute.{everything}
 use Rattle.sqlite_ast.specs.declared.Expr.TheVariants as expr
 
@@ -46,36 +46,41 @@ add_batch_means schema at tree exists =
     (simp (exists.named, exists.there) refl) (λ base. refl) (λ base. simp (exists.named, exists.there) refl)
 
 abbrev pub add_voucher_text : List ℕ
-add_voucher_text = codes "INSERT INTO portal_vouchers (code, batch_id, place) VALUES (?1, ?2, ?3)"
+add_voucher_text =
+    codes "INSERT INTO portal_vouchers (code, batch_id, place, redeemed) VALUES (?1, ?2, ?3, 0)"
 
 abbrev pub add_voucher_terms : List Term
-add_voucher_terms = lit Null ∷ col 0 0 ∷ col 0 1 ∷ col 0 2 ∷ lit Null ∷ lit Null ∷ lit Null ∷ []
+add_voucher_terms = lit Null ∷ col 0 0 ∷ col 0 1 ∷ col 0 2 ∷ lit Null ∷ lit Null ∷ lit Null
+    ∷ lit (Int (pos 0)) ∷ []
 
 pub add_voucher_means : (schema : Schema) (at tree : ℕ) → TableExists schema at (vouchers tree)
-    → Means schema add_voucher_text (Insert at (Values add_voucher_terms 7))
+    → Means schema add_voucher_text (Insert at (Values add_voucher_terms 8))
 unfolding everything
 add_voucher_means schema at tree exists =
     means_is schema add_voucher_text
-    (insert_into vouchers_name (codes "code" ∷ codes "batch_id" ∷ codes "place" ∷ [])
-    (expr.Parameter 1 ∷ expr.Parameter 2 ∷ expr.Parameter 3 ∷ []))
+    (insert_into vouchers_name (codes "code" ∷ codes "batch_id" ∷ codes "place" ∷ codes "redeemed" ∷ [])
+    (expr.Parameter 1 ∷ expr.Parameter 2 ∷ expr.Parameter 3 ∷ expr.Integer (codes "0") ∷ []))
     3 _ (record { parsed = _; read = refl; is = refl; timeless = refl; counted = refl })
     (simp (exists.named, exists.there) refl) (λ base. refl) (λ base. simp (exists.named, exists.there) refl)
 
 abbrev pub add_session_text : List ℕ
 add_session_text =
-    codes "INSERT INTO portal_sessions (number, device, plan_id, opened, used) VALUES (?1, ?2, ?3, ?4, 0)"
+    codes "INSERT INTO portal_sessions (number, device, plan_id, opened, used, ends, remaining) VALUES (?1, "
+    ++ codes "?2, ?3, ?4, 0, ?5, ?6)"
 
 abbrev pub add_session_terms : List Term
-add_session_terms = col 0 0 ∷ lit Null ∷ col 0 1 ∷ col 0 2 ∷ col 0 3 ∷ lit (Int (pos 0)) ∷ lit Null ∷ []
+add_session_terms = col 0 0 ∷ lit Null ∷ col 0 1 ∷ col 0 2 ∷ col 0 3 ∷ lit (Int (pos 0)) ∷ lit Null
+    ∷ col 0 4 ∷ col 0 5 ∷ []
 
 pub add_session_means : (schema : Schema) (at tree : ℕ) → TableExists schema at (sessions tree)
-    → Means schema add_session_text (Insert at (Values add_session_terms 7))
+    → Means schema add_session_text (Insert at (Values add_session_terms 9))
 unfolding everything
 add_session_means schema at tree exists =
     means_is schema add_session_text (insert_into sessions_name
-    (codes "number" ∷ codes "device" ∷ codes "plan_id" ∷ codes "opened" ∷ codes "used" ∷ []) (expr.Parameter 1
-    ∷ expr.Parameter 2 ∷ expr.Parameter 3 ∷ expr.Parameter 4 ∷ expr.Integer (codes "0") ∷ []))
-    4 _ (record { parsed = _; read = refl; is = refl; timeless = refl; counted = refl })
+    (codes "number" ∷ codes "device" ∷ codes "plan_id" ∷ codes "opened" ∷ codes "used" ∷ codes "ends"
+    ∷ codes "remaining" ∷ []) (expr.Parameter 1 ∷ expr.Parameter 2 ∷ expr.Parameter 3 ∷ expr.Parameter 4
+    ∷ expr.Integer (codes "0") ∷ expr.Parameter 5 ∷ expr.Parameter 6 ∷ []))
+    6 _ (record { parsed = _; read = refl; is = refl; timeless = refl; counted = refl })
     (simp (exists.named, exists.there) refl) (λ base. refl) (λ base. simp (exists.named, exists.there) refl)
 
 abbrev pub add_grant_text : List ℕ
@@ -114,74 +119,47 @@ add_head_means schema at tree exists =
     1 _ (record { parsed = _; read = refl; is = refl; timeless = refl; counted = refl })
     (simp (exists.named, exists.there) refl) (λ base. refl) (λ base. simp (exists.named, exists.there) refl)
 
-abbrev pub add_count_text : List ℕ
-add_count_text = codes "INSERT INTO portal_counts (code, redeemed) VALUES (?1, ?2)"
-
-abbrev pub add_count_terms : List Term
-add_count_terms = lit Null ∷ col 0 0 ∷ col 0 1 ∷ []
-
-pub add_count_means : (schema : Schema) (at tree : ℕ) → TableExists schema at (counts tree)
-    → Means schema add_count_text (Insert at (Values add_count_terms 3))
-unfolding everything
-add_count_means schema at tree exists =
-    means_is schema add_count_text (insert_into counts_name
-    (codes "code" ∷ codes "redeemed" ∷ []) (expr.Parameter 1 ∷ expr.Parameter 2 ∷ []))
-    2 _ (record { parsed = _; read = refl; is = refl; timeless = refl; counted = refl })
-    (simp (exists.named, exists.there) refl) (λ base. refl) (λ base. simp (exists.named, exists.there) refl)
-
-abbrev pub add_total_text : List ℕ
-add_total_text = codes "INSERT INTO portal_totals (number, ends, remaining) VALUES (?1, ?2, ?3)"
-
-abbrev pub add_total_terms : List Term
-add_total_terms = col 0 0 ∷ lit Null ∷ col 0 1 ∷ col 0 2 ∷ []
-
-pub add_total_means : (schema : Schema) (at tree : ℕ) → TableExists schema at (totals tree)
-    → Means schema add_total_text (Insert at (Values add_total_terms 4))
-unfolding everything
-add_total_means schema at tree exists =
-    means_is schema add_total_text
-    (insert_into totals_name (codes "number" ∷ codes "ends" ∷ codes "remaining" ∷ [])
-    (expr.Parameter 1 ∷ expr.Parameter 2 ∷ expr.Parameter 3 ∷ []))
-    3 _ (record { parsed = _; read = refl; is = refl; timeless = refl; counted = refl })
-    (simp (exists.named, exists.there) refl) (λ base. refl) (λ base. simp (exists.named, exists.there) refl)
-
 -- ---- with all columns
 
 abbrev pub add_whole_voucher_text : List ℕ
 add_whole_voucher_text =
-    codes "INSERT INTO portal_vouchers (code, batch_id, place, sold, refunded, amount) VALUES (?1, ?2, "
-    ++ codes "?3, ?4, ?5, ?6)"
+    codes "INSERT INTO portal_vouchers (code, batch_id, place, sold, refunded, amount, redeemed) VALUES (?1, "
+    ++ codes "?2, ?3, ?4, ?5, ?6, ?7)"
 
 abbrev pub add_whole_voucher_terms : List Term
-add_whole_voucher_terms = lit Null ∷ col 0 0 ∷ col 0 1 ∷ col 0 2 ∷ col 0 3 ∷ col 0 4 ∷ col 0 5 ∷ []
+add_whole_voucher_terms = lit Null ∷ col 0 0 ∷ col 0 1 ∷ col 0 2 ∷ col 0 3 ∷ col 0 4 ∷ col 0 5
+    ∷ col 0 6 ∷ []
 
 pub add_whole_voucher_means : (schema : Schema) (at tree : ℕ) → TableExists schema at (vouchers tree)
-    → Means schema add_whole_voucher_text (Insert at (Values add_whole_voucher_terms 7))
+    → Means schema add_whole_voucher_text (Insert at (Values add_whole_voucher_terms 8))
 unfolding everything
 add_whole_voucher_means schema at tree exists =
     means_is schema add_whole_voucher_text (insert_into vouchers_name
-    (codes "code" ∷ codes "batch_id" ∷ codes "place" ∷ codes "sold" ∷ codes "refunded" ∷ codes "amount" ∷ [])
+    (codes "code" ∷ codes "batch_id" ∷ codes "place" ∷ codes "sold" ∷ codes "refunded" ∷ codes "amount"
+    ∷ codes "redeemed" ∷ [])
     (expr.Parameter 1 ∷ expr.Parameter 2 ∷ expr.Parameter 3 ∷ expr.Parameter 4 ∷ expr.Parameter 5
-    ∷ expr.Parameter 6 ∷ []))
-    6 _ (record { parsed = _; read = refl; is = refl; timeless = refl; counted = refl })
+    ∷ expr.Parameter 6 ∷ expr.Parameter 7 ∷ []))
+    7 _ (record { parsed = _; read = refl; is = refl; timeless = refl; counted = refl })
     (simp (exists.named, exists.there) refl) (λ base. refl) (λ base. simp (exists.named, exists.there) refl)
 
 abbrev pub add_whole_session_text : List ℕ
 add_whole_session_text =
-    codes "INSERT INTO portal_sessions (number, device, plan_id, opened, used, closed) VALUES (?1, ?2, "
-    ++ codes "?3, ?4, ?5, ?6)"
+    codes "INSERT INTO portal_sessions (number, device, plan_id, opened, used, closed, ends, remaining) "
+    ++ codes "VALUES (?1, ?2, ?3, ?4, ?5, ?6, ?7, ?8)"
 
 abbrev pub add_whole_session_terms : List Term
-add_whole_session_terms = col 0 0 ∷ lit Null ∷ col 0 1 ∷ col 0 2 ∷ col 0 3 ∷ col 0 4 ∷ col 0 5 ∷ []
+add_whole_session_terms = col 0 0 ∷ lit Null ∷ col 0 1 ∷ col 0 2 ∷ col 0 3 ∷ col 0 4 ∷ col 0 5
+    ∷ col 0 6 ∷ col 0 7 ∷ []
 
 pub add_whole_session_means : (schema : Schema) (at tree : ℕ) → TableExists schema at (sessions tree)
-    → Means schema add_whole_session_text (Insert at (Values add_whole_session_terms 7))
+    → Means schema add_whole_session_text (Insert at (Values add_whole_session_terms 9))
 unfolding everything
 add_whole_session_means schema at tree exists =
     means_is schema add_whole_session_text (insert_into sessions_name (codes "number" ∷ codes "device"
-    ∷ codes "plan_id" ∷ codes "opened" ∷ codes "used" ∷ codes "closed" ∷ []) (expr.Parameter 1
-    ∷ expr.Parameter 2 ∷ expr.Parameter 3 ∷ expr.Parameter 4 ∷ expr.Parameter 5 ∷ expr.Parameter 6 ∷ []))
-    6 _ (record { parsed = _; read = refl; is = refl; timeless = refl; counted = refl })
+    ∷ codes "plan_id" ∷ codes "opened" ∷ codes "used" ∷ codes "closed" ∷ codes "ends" ∷ codes "remaining"
+    ∷ []) (expr.Parameter 1 ∷ expr.Parameter 2 ∷ expr.Parameter 3 ∷ expr.Parameter 4 ∷ expr.Parameter 5
+    ∷ expr.Parameter 6 ∷ expr.Parameter 7 ∷ expr.Parameter 8 ∷ []))
+    8 _ (record { parsed = _; read = refl; is = refl; timeless = refl; counted = refl })
     (simp (exists.named, exists.there) refl) (λ base. refl) (λ base. simp (exists.named, exists.there) refl)
 
 abbrev pub add_whole_head_text : List ℕ

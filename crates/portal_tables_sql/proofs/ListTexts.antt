@@ -5,7 +5,7 @@ use Rattle.portal_tables_sql.proofs.Common.{Ge, Le, Binary, TableExists}
 use Rattle.portal_tables_sql.proofs.Queries.{drafted, unlimited}
 use Rattle.portal_tables_sql.proofs.Lookup.{IsSelect, all_columns, by, column_is}
 use Rattle.portal_tables_sql.proofs.Selects.{select_means, up, where_is}
-use Rattle.portal_tables_sql.specs.Tables.{vouchers, vouchers_name}
+use Rattle.portal_tables_sql.specs.Tables.{vouchers, vouchers_name, sessions, sessions_name}
 use Rattle.portal_tables_sql.proofs.SelectTexts.{voucher_columns}
 use Rattle.sqlite_tied.specs.Compute.{everything}
 use Rattle.sqlite_ast.specs.declared.Expr.{Expr}
@@ -18,8 +18,8 @@ use Rattle.portal_tables_sql.proofs.WholeTables.{by_rowid, has_rowids, IsSelectO
 
 abbrev pub batch_vouchers_text : List ℕ
 batch_vouchers_text =
-    codes "SELECT code, batch_id, place, sold, refunded, amount FROM portal_vouchers WHERE batch_id = ?1"
-    ++ codes " ORDER BY place"
+    codes "SELECT code, batch_id, place, sold, refunded, amount, redeemed FROM portal_vouchers"
+    ++ codes " WHERE batch_id = ?1 ORDER BY place"
 
 pub batch_vouchers_means : (schema : Schema) (at tree : ℕ) → TableExists schema at (vouchers tree)
     → IsSelect schema batch_vouchers_text (vouchers tree) (column_is (vouchers tree) 1 (col 0 0) ∷ [])
@@ -31,7 +31,7 @@ batch_vouchers_means schema at tree exists =
     (lit (Int (negsuc 0)), lit (Int (pos 0)))
     (drafted tree (column_is (vouchers tree) 1 (col 0 0) ∷ [])
     (all_columns (vouchers tree)) (by (vouchers tree) 2 false) unlimited)
-    (Some Binary ∷ Some Binary ∷ Some Binary ∷ Some Binary ∷ Some Binary ∷ Some Binary ∷ [])
+    (Some Binary ∷ Some Binary ∷ Some Binary ∷ Some Binary ∷ Some Binary ∷ Some Binary ∷ Some Binary ∷ [])
     (record { parsed = _; read = refl; is = refl; timeless = refl; counted = refl }) refl refl
     (simp (exists.named, exists.there) refl) (simp (exists.low, exists.typed) refl) refl (λ base. refl)
 
@@ -73,7 +73,7 @@ sold_means schema at tree exists =
 
 abbrev pub ordered_text : List ℕ
 ordered_text =
-    codes "SELECT code, batch_id, place, sold, refunded, amount FROM portal_vouchers"
+    codes "SELECT code, batch_id, place, sold, refunded, amount, redeemed FROM portal_vouchers"
     ++ codes " WHERE sold >= ?1 AND sold <= ?2 ORDER BY sold, code"
 
 pub ordered_means : (schema : Schema) (at tree : ℕ) → TableExists schema at (vouchers tree)
@@ -85,13 +85,13 @@ ordered_means schema at tree exists =
     (up (codes "sold") ++ up (codes "code")) None 2 (lit (Int (negsuc 0)), lit (Int (pos 0)))
     (drafted tree (within_terms (vouchers tree) 3) (all_columns (vouchers tree))
     (by (vouchers tree) 3 false ++ by (vouchers tree) 0 false) unlimited)
-    (Some Binary ∷ Some Binary ∷ Some Binary ∷ Some Binary ∷ Some Binary ∷ Some Binary ∷ [])
+    (Some Binary ∷ Some Binary ∷ Some Binary ∷ Some Binary ∷ Some Binary ∷ Some Binary ∷ Some Binary ∷ [])
     (record { parsed = _; read = refl; is = refl; timeless = refl; counted = refl }) refl refl
     (simp (exists.named, exists.there) refl) (simp (exists.low, exists.typed) refl) refl (λ base. refl)
 
 abbrev pub refunded_text : List ℕ
 refunded_text =
-    codes "SELECT code, batch_id, place, sold, refunded, amount FROM portal_vouchers"
+    codes "SELECT code, batch_id, place, sold, refunded, amount, redeemed FROM portal_vouchers"
     ++ codes " WHERE refunded >= ?1 AND refunded <= ?2 ORDER BY refunded, code"
 
 pub refunded_means : (schema : Schema) (at tree : ℕ) → TableExists schema at (vouchers tree)
@@ -103,6 +103,29 @@ refunded_means schema at tree exists =
     (up (codes "refunded") ++ up (codes "code")) None 2 (lit (Int (negsuc 0)), lit (Int (pos 0)))
     (drafted tree (within_terms (vouchers tree) 4) (all_columns (vouchers tree))
     (by (vouchers tree) 4 false ++ by (vouchers tree) 0 false) unlimited)
-    (Some Binary ∷ Some Binary ∷ Some Binary ∷ Some Binary ∷ Some Binary ∷ Some Binary ∷ [])
+    (Some Binary ∷ Some Binary ∷ Some Binary ∷ Some Binary ∷ Some Binary ∷ Some Binary ∷ Some Binary ∷ [])
+    (record { parsed = _; read = refl; is = refl; timeless = refl; counted = refl }) refl refl
+    (simp (exists.named, exists.there) refl) (simp (exists.low, exists.typed) refl) refl (λ base. refl)
+
+-- ---- the end and the remaining allowance of each session
+
+abbrev pub all_totals_text : List ℕ
+all_totals_text = codes "SELECT number, ends, remaining FROM portal_sessions ORDER BY number"
+
+abbrev pub total_columns : List (List ℕ)
+total_columns = codes "number" ∷ codes "ends" ∷ codes "remaining" ∷ []
+
+-- the terms of the result
+abbrev pub total_terms : Table → List Term
+total_terms table = col 1 (place_of table 0) ∷ col 1 (place_of table 6) ∷ col 1 (place_of table 7) ∷ []
+
+pub all_totals_means : (schema : Schema) (at tree : ℕ) → TableExists schema at (sessions tree)
+    → IsSelectOf schema all_totals_text (sessions tree) [] (total_terms (sessions tree)) total_columns
+unfolding everything
+all_totals_means schema at tree exists =
+    select_means schema all_totals_text sessions_name total_columns None (up (codes "number")) None 0
+    (lit (Int (negsuc 0)), lit (Int (pos 0)))
+    (drafted tree [] (total_terms (sessions tree)) by_rowid unlimited)
+    (None ∷ Some Binary ∷ Some Binary ∷ [])
     (record { parsed = _; read = refl; is = refl; timeless = refl; counted = refl }) refl refl
     (simp (exists.named, exists.there) refl) (simp (exists.low, exists.typed) refl) refl (λ base. refl)

@@ -1,11 +1,13 @@
--- What the SELECT statements with a LIMIT mean, wherever the tables are in the schema.
-use Rattle.portal_tables_sql.proofs.Common.{ℕ, pos, List, [], ◌∷◌, ◌++◌, codes, Option, Some, None}
+-- What the SELECT statements with a LIMIT mean, wherever the tables are in the schema, and that of one
+-- redemption.
+use Rattle.portal_tables_sql.proofs.Common.{ℕ, pos, negsuc, List, [], ◌∷◌, ◌++◌, codes, Option, Some, None}
 use Rattle.portal_tables_sql.proofs.Common.{refl, true, false, Int, Term, lit, col, op2, Schema, Table}
 use Rattle.portal_tables_sql.proofs.Common.{place_of, Ge, Le, Binary, TableExists}
-use Rattle.portal_tables_sql.proofs.Queries.{drafted}
-use Rattle.portal_tables_sql.proofs.Lookup.{IsSelect, all_columns, by}
-use Rattle.portal_tables_sql.proofs.Selects.{select_means, up, down}
-use Rattle.portal_tables_sql.specs.Tables.{vouchers, vouchers_name, batches, batches_name}
+use Rattle.portal_tables_sql.proofs.Queries.{drafted, unlimited}
+use Rattle.portal_tables_sql.proofs.Lookup.{IsSelect, all_columns, by, column_is}
+use Rattle.portal_tables_sql.proofs.Selects.{select_means, up, down, where_is}
+use Rattle.portal_tables_sql.specs.Tables.{vouchers, vouchers_name, batches, batches_name, grants}
+use Rattle.portal_tables_sql.specs.Tables.{grants_name}
 use Rattle.portal_tables_sql.proofs.SelectTexts.{voucher_columns, batch_columns}
 use Rattle.sqlite_tied.specs.Compute.{everything}
 use Rattle.sqlite_ast.specs.declared.Expr.{Expr}
@@ -18,7 +20,7 @@ use Rattle.sqlite_sql.specs.declared.ops.CompareOp.TheVariants.{Lt}
 
 abbrev pub between_text : List ℕ
 between_text =
-    codes "SELECT code, batch_id, place, sold, refunded, amount FROM portal_vouchers"
+    codes "SELECT code, batch_id, place, sold, refunded, amount, redeemed FROM portal_vouchers"
     ++ codes " WHERE code >= ?1 AND code < ?2 ORDER BY code LIMIT 51"
 
 -- WHERE code >= ?1 AND code < ?2
@@ -41,7 +43,7 @@ between_means schema at tree exists =
     (Some (expr.Integer (codes "51"))) 2 (lit (Int (pos 51)), lit (Int (pos 0)))
     (drafted tree (between_terms (vouchers tree)) (all_columns (vouchers tree)) (by (vouchers tree) 0 false)
     (pos 51))
-    (Some Binary ∷ Some Binary ∷ Some Binary ∷ Some Binary ∷ Some Binary ∷ Some Binary ∷ [])
+    (Some Binary ∷ Some Binary ∷ Some Binary ∷ Some Binary ∷ Some Binary ∷ Some Binary ∷ Some Binary ∷ [])
     (record { parsed = _; read = refl; is = refl; timeless = refl; counted = refl }) refl refl
     (simp (exists.named, exists.there) refl) (simp (exists.low, exists.typed) refl) refl (λ base. refl)
 
@@ -78,5 +80,45 @@ behind_means schema at tree exists =
     (drafted tree (behind_terms (batches tree)) (all_columns (batches tree))
     (by (batches tree) 2 true ++ by (batches tree) 0 true) (pos 21))
     (Some Binary ∷ Some Binary ∷ Some Binary ∷ Some Binary ∷ Some Binary ∷ [])
+    (record { parsed = _; read = refl; is = refl; timeless = refl; counted = refl }) refl refl
+    (simp (exists.named, exists.there) refl) (simp (exists.low, exists.typed) refl) refl (λ base. refl)
+
+-- ---- redemptions
+
+abbrev pub grant_columns : List (List ℕ)
+grant_columns = codes "number" ∷ codes "code" ∷ codes "session" ∷ codes "moment" ∷ codes "seconds"
+    ∷ codes "bytes" ∷ []
+
+abbrev pub grant_text : List ℕ
+grant_text =
+    codes "SELECT number, code, session, moment, seconds, bytes FROM portal_grants WHERE number = ?1"
+
+pub grant_means : (schema : Schema) (at tree : ℕ) → TableExists schema at (grants tree) → IsSelect schema
+    grant_text (grants tree) (column_is (grants tree) 0 (col 0 0) ∷ []) [] unlimited grant_columns
+unfolding everything
+grant_means schema at tree exists =
+    select_means schema grant_text grants_name grant_columns (where_is (codes "number") (expr.Parameter 1)) []
+    None 1 (lit (Int (negsuc 0)), lit (Int (pos 0)))
+    (drafted tree (column_is (grants tree) 0 (col 0 0) ∷ []) (all_columns (grants tree)) [] unlimited)
+    (None ∷ Some Binary ∷ Some Binary ∷ Some Binary ∷ Some Binary ∷ Some Binary ∷ [])
+    (record { parsed = _; read = refl; is = refl; timeless = refl; counted = refl }) refl refl
+    (simp (exists.named, exists.there) refl) (simp (exists.low, exists.typed) refl) refl (λ base. refl)
+
+abbrev pub last_grants_text : List ℕ
+last_grants_text =
+    codes "SELECT number, code, session, moment, seconds, bytes FROM portal_grants WHERE code = ?1"
+    ++ codes " ORDER BY number DESC LIMIT 101"
+
+pub last_grants_means : (schema : Schema) (at tree : ℕ) → TableExists schema at (grants tree)
+    → IsSelect schema last_grants_text (grants tree) (column_is (grants tree) 1 (col 0 0) ∷ [])
+    (by (grants tree) 0 true) (pos 101) grant_columns
+unfolding everything
+last_grants_means schema at tree exists =
+    select_means schema last_grants_text grants_name grant_columns
+    (where_is (codes "code") (expr.Parameter 1)) (down (codes "number"))
+    (Some (expr.Integer (codes "101"))) 1 (lit (Int (pos 101)), lit (Int (pos 0)))
+    (drafted tree (column_is (grants tree) 1 (col 0 0) ∷ []) (all_columns (grants tree))
+    (by (grants tree) 0 true) (pos 101))
+    (None ∷ Some Binary ∷ Some Binary ∷ Some Binary ∷ Some Binary ∷ Some Binary ∷ [])
     (record { parsed = _; read = refl; is = refl; timeless = refl; counted = refl }) refl refl
     (simp (exists.named, exists.there) refl) (simp (exists.low, exists.typed) refl) refl (λ base. refl)

@@ -5,9 +5,8 @@ use Rattle.portal_tables_sql.proofs.Common.{lit, col, Schema, Binary, TableExist
 use Rattle.portal_tables_sql.proofs.Queries.{drafted, unlimited}
 use Rattle.portal_tables_sql.proofs.Lookup.{IsSelect, all_columns, column_is, by}
 use Rattle.portal_tables_sql.proofs.Selects.{select_means, where_is, down}
-use Rattle.portal_tables_sql.specs.Tables.{head, plans, batches, vouchers, sessions, counts, totals}
+use Rattle.portal_tables_sql.specs.Tables.{head, plans, batches, vouchers, sessions}
 use Rattle.portal_tables_sql.specs.Tables.{head_name, plans_name, batches_name, vouchers_name, sessions_name}
-use Rattle.portal_tables_sql.specs.Tables.{counts_name, totals_name}
 use Rattle.sqlite_tied.specs.Compute.{everything}
 use Rattle.sqlite_ast.specs.declared.Expr.TheVariants as expr
 
@@ -65,11 +64,13 @@ batch_means schema at tree exists =
 
 abbrev pub voucher_text : List ℕ
 voucher_text =
-    codes "SELECT code, batch_id, place, sold, refunded, amount FROM portal_vouchers WHERE code = ?1"
+    codes "SELECT code, batch_id, place, sold, refunded, amount, redeemed FROM portal_vouchers "
+    ++ codes "WHERE code = ?1"
 
 abbrev pub voucher_columns : List (List ℕ)
 voucher_columns =
-    codes "code" ∷ codes "batch_id" ∷ codes "place" ∷ codes "sold" ∷ codes "refunded" ∷ codes "amount" ∷ []
+    codes "code" ∷ codes "batch_id" ∷ codes "place" ∷ codes "sold" ∷ codes "refunded" ∷ codes "amount"
+    ∷ codes "redeemed" ∷ []
 
 pub voucher_means : (schema : Schema) (at tree : ℕ) → TableExists schema at (vouchers tree) → IsSelect schema
     voucher_text (vouchers tree) (column_is (vouchers tree) 0 (col 0 0) ∷ []) [] unlimited voucher_columns
@@ -78,17 +79,19 @@ voucher_means schema at tree exists =
     select_means schema voucher_text vouchers_name voucher_columns
     (where_is (codes "code") (expr.Parameter 1)) [] None 1 (lit (Int (negsuc 0)), lit (Int (pos 0)))
     (drafted tree (column_is (vouchers tree) 0 (col 0 0) ∷ []) (all_columns (vouchers tree)) [] unlimited)
-    (Some Binary ∷ Some Binary ∷ Some Binary ∷ Some Binary ∷ Some Binary ∷ Some Binary ∷ [])
+    (Some Binary ∷ Some Binary ∷ Some Binary ∷ Some Binary ∷ Some Binary ∷ Some Binary ∷ Some Binary ∷ [])
     (record { parsed = _; read = refl; is = refl; timeless = refl; counted = refl }) refl refl
     (simp (exists.named, exists.there) refl) (simp (exists.low, exists.typed) refl) refl (λ base. refl)
 
 abbrev pub session_text : List ℕ
 session_text =
-    codes "SELECT number, device, plan_id, opened, used, closed FROM portal_sessions WHERE number = ?1"
+    codes "SELECT number, device, plan_id, opened, used, closed, ends, remaining FROM portal_sessions "
+    ++ codes "WHERE number = ?1"
 
 abbrev pub session_columns : List (List ℕ)
 session_columns =
-    codes "number" ∷ codes "device" ∷ codes "plan_id" ∷ codes "opened" ∷ codes "used" ∷ codes "closed" ∷ []
+    codes "number" ∷ codes "device" ∷ codes "plan_id" ∷ codes "opened" ∷ codes "used" ∷ codes "closed"
+    ∷ codes "ends" ∷ codes "remaining" ∷ []
 
 pub session_means : (schema : Schema) (at tree : ℕ) → TableExists schema at (sessions tree) → IsSelect schema
     session_text (sessions tree) (column_is (sessions tree) 0 (col 0 0) ∷ []) [] unlimited session_columns
@@ -97,48 +100,15 @@ session_means schema at tree exists =
     select_means schema session_text sessions_name session_columns
     (where_is (codes "number") (expr.Parameter 1)) [] None 1 (lit (Int (negsuc 0)), lit (Int (pos 0)))
     (drafted tree (column_is (sessions tree) 0 (col 0 0) ∷ []) (all_columns (sessions tree)) [] unlimited)
-    (None ∷ Some Binary ∷ Some Binary ∷ Some Binary ∷ Some Binary ∷ Some Binary ∷ [])
-    (record { parsed = _; read = refl; is = refl; timeless = refl; counted = refl }) refl refl
-    (simp (exists.named, exists.there) refl) (simp (exists.low, exists.typed) refl) refl (λ base. refl)
-
-abbrev pub count_text : List ℕ
-count_text = codes "SELECT code, redeemed FROM portal_counts WHERE code = ?1"
-
-abbrev pub count_columns : List (List ℕ)
-count_columns = codes "code" ∷ codes "redeemed" ∷ []
-
-pub count_means : (schema : Schema) (at tree : ℕ) → TableExists schema at (counts tree) → IsSelect schema
-    count_text (counts tree) (column_is (counts tree) 0 (col 0 0) ∷ []) [] unlimited count_columns
-unfolding everything
-count_means schema at tree exists =
-    select_means schema count_text counts_name count_columns (where_is (codes "code") (expr.Parameter 1)) []
-    None 1 (lit (Int (negsuc 0)), lit (Int (pos 0)))
-    (drafted tree (column_is (counts tree) 0 (col 0 0) ∷ []) (all_columns (counts tree)) [] unlimited)
-    (Some Binary ∷ Some Binary ∷ [])
-    (record { parsed = _; read = refl; is = refl; timeless = refl; counted = refl }) refl refl
-    (simp (exists.named, exists.there) refl) (simp (exists.low, exists.typed) refl) refl (λ base. refl)
-
-abbrev pub total_text : List ℕ
-total_text = codes "SELECT number, ends, remaining FROM portal_totals WHERE number = ?1"
-
-abbrev pub total_columns : List (List ℕ)
-total_columns = codes "number" ∷ codes "ends" ∷ codes "remaining" ∷ []
-
-pub total_means : (schema : Schema) (at tree : ℕ) → TableExists schema at (totals tree) → IsSelect schema
-    total_text (totals tree) (column_is (totals tree) 0 (col 0 0) ∷ []) [] unlimited total_columns
-unfolding everything
-total_means schema at tree exists =
-    select_means schema total_text totals_name total_columns (where_is (codes "number") (expr.Parameter 1)) []
-    None 1 (lit (Int (negsuc 0)), lit (Int (pos 0)))
-    (drafted tree (column_is (totals tree) 0 (col 0 0) ∷ []) (all_columns (totals tree)) [] unlimited)
-    (None ∷ Some Binary ∷ Some Binary ∷ [])
+    (None ∷ Some Binary ∷ Some Binary ∷ Some Binary ∷ Some Binary ∷ Some Binary ∷ Some Binary ∷ Some Binary
+    ∷ [])
     (record { parsed = _; read = refl; is = refl; timeless = refl; counted = refl }) refl refl
     (simp (exists.named, exists.there) refl) (simp (exists.low, exists.typed) refl) refl (λ base. refl)
 
 abbrev pub last_session_text : List ℕ
 last_session_text =
-    codes "SELECT number, device, plan_id, opened, used, closed FROM portal_sessions WHERE device = ?1"
-    ++ codes " ORDER BY number DESC LIMIT 1"
+    codes "SELECT number, device, plan_id, opened, used, closed, ends, remaining FROM portal_sessions "
+    ++ codes "WHERE device = ?1 ORDER BY number DESC LIMIT 1"
 
 pub last_session_means : (schema : Schema) (at tree : ℕ) → TableExists schema at (sessions tree)
     → IsSelect schema last_session_text (sessions tree) (column_is (sessions tree) 1 (col 0 0) ∷ [])
@@ -150,6 +120,7 @@ last_session_means schema at tree exists =
     (lit (Int (pos 1)), lit (Int (pos 0)))
     (drafted tree (column_is (sessions tree) 1 (col 0 0) ∷ [])
     (all_columns (sessions tree)) (by (sessions tree) 0 true) (pos 1))
-    (None ∷ Some Binary ∷ Some Binary ∷ Some Binary ∷ Some Binary ∷ Some Binary ∷ [])
+    (None ∷ Some Binary ∷ Some Binary ∷ Some Binary ∷ Some Binary ∷ Some Binary ∷ Some Binary ∷ Some Binary
+    ∷ [])
     (record { parsed = _; read = refl; is = refl; timeless = refl; counted = refl }) refl refl
     (simp (exists.named, exists.there) refl) (simp (exists.low, exists.typed) refl) refl (λ base. refl)

@@ -6,7 +6,8 @@ use Rattle.sqlite_schema.specs.Names.{same_name}
 use Rattle.std.specs.List.{AllByRecursion}
 use Rattle.portal_tables_sql.proofs.Makes.{IsCreate}
 use Rattle.portal_tables_sql.proofs.CreateTexts as texts
-use Rattle.portal_tables_sql.specs.Tables.{table_in, table_of, name_of, create_of, our_tables}
+use Rattle.portal_tables_sql.specs.Tables.{Layout, Apart, Together, table_in, table_of, name_of, create_of}
+use Rattle.portal_tables_sql.specs.Tables.{our_tables}
 use Rattle.portal_tables_sql.specs.declared.our_tables.OurTable.{OurTable}
 use Rattle.portal_tables_sql.specs.declared.our_tables.OurTable.TheVariants as our
 
@@ -70,27 +71,45 @@ placed our.Counts n = refl
 placed our.Totals n = refl
 placed our.Requests n = refl
 
-pub tree_is : (keyed : Bool) (x : OurTable) (n : ℕ) → (table_in keyed x n).tree ≡ n
-tree_is keyed our.Head n = refl
-tree_is keyed our.Plans n = refl
-tree_is keyed our.Batches n = refl
-tree_is keyed our.Vouchers n = refl
-tree_is keyed our.Sessions n = refl
-tree_is keyed our.Grants n = refl
-tree_is keyed our.Counts n = refl
-tree_is keyed our.Totals n = refl
-tree_is keyed our.Requests n = refl
+pub tree_is : (layout : Layout) (x : OurTable) (n : ℕ) → (table_in layout x n).tree ≡ n
+tree_is (Apart keyed) our.Head n = refl
+tree_is (Apart keyed) our.Plans n = refl
+tree_is (Apart keyed) our.Batches n = refl
+tree_is (Apart keyed) our.Vouchers n = refl
+tree_is (Apart keyed) our.Sessions n = refl
+tree_is (Apart keyed) our.Grants n = refl
+tree_is (Apart keyed) our.Counts n = refl
+tree_is (Apart keyed) our.Totals n = refl
+tree_is (Apart keyed) our.Requests n = refl
+tree_is Together our.Head n = refl
+tree_is Together our.Plans n = refl
+tree_is Together our.Batches n = refl
+tree_is Together our.Vouchers n = refl
+tree_is Together our.Sessions n = refl
+tree_is Together our.Grants n = refl
+tree_is Together our.Counts n = refl
+tree_is Together our.Totals n = refl
+tree_is Together our.Requests n = refl
 
-pub name_is : (keyed : Bool) (x : OurTable) (n : ℕ) → (table_in keyed x n).name ≡ name_of x
-name_is keyed our.Head n = refl
-name_is keyed our.Plans n = refl
-name_is keyed our.Batches n = refl
-name_is keyed our.Vouchers n = refl
-name_is keyed our.Sessions n = refl
-name_is keyed our.Grants n = refl
-name_is keyed our.Counts n = refl
-name_is keyed our.Totals n = refl
-name_is keyed our.Requests n = refl
+pub name_is : (layout : Layout) (x : OurTable) (n : ℕ) → (table_in layout x n).name ≡ name_of x
+name_is (Apart keyed) our.Head n = refl
+name_is (Apart keyed) our.Plans n = refl
+name_is (Apart keyed) our.Batches n = refl
+name_is (Apart keyed) our.Vouchers n = refl
+name_is (Apart keyed) our.Sessions n = refl
+name_is (Apart keyed) our.Grants n = refl
+name_is (Apart keyed) our.Counts n = refl
+name_is (Apart keyed) our.Totals n = refl
+name_is (Apart keyed) our.Requests n = refl
+name_is Together our.Head n = refl
+name_is Together our.Plans n = refl
+name_is Together our.Batches n = refl
+name_is Together our.Vouchers n = refl
+name_is Together our.Sessions n = refl
+name_is Together our.Grants n = refl
+name_is Together our.Counts n = refl
+name_is Together our.Totals n = refl
+name_is Together our.Requests n = refl
 
 pub names_itself : (x : OurTable) → same_name (name_of x) (name_of x) ≡ true
 unfolding same_name

@@ -4,8 +4,8 @@ use Rattle.portal_tables_sql.proofs.Common.{Schema, Update, TableExists}
 use Rattle.portal_tables_sql.proofs.Queries.{over, equals}
 use Rattle.portal_tables_sql.proofs.Texts.{Means, means_is}
 use Rattle.portal_tables_sql.proofs.Selects.{update_where}
-use Rattle.portal_tables_sql.specs.Tables.{head, vouchers, sessions, counts, totals, head_name, vouchers_name}
-use Rattle.portal_tables_sql.specs.Tables.{sessions_name, counts_name, totals_name}
+use Rattle.portal_tables_sql.specs.Tables.{head, vouchers, sessions, head_name, vouchers_name}
+use Rattle.portal_tables_sql.specs.Tables.{sessions_name}
 use Rattle.sqlite_tied.specs.Compute.{everything}
 use Rattle.sqlite_ast.specs.declared.Expr.TheVariants as expr
 
@@ -31,7 +31,7 @@ abbrev pub sell_text : List ℕ
 sell_text = codes "UPDATE portal_vouchers SET sold = ?2 WHERE code = ?1"
 
 abbrev pub sell_terms : List Term
-sell_terms = col 1 0 ∷ col 1 1 ∷ col 1 2 ∷ col 1 3 ∷ col 0 1 ∷ col 1 5 ∷ col 1 6 ∷ []
+sell_terms = col 1 0 ∷ col 1 1 ∷ col 1 2 ∷ col 1 3 ∷ col 0 1 ∷ col 1 5 ∷ col 1 6 ∷ col 1 7 ∷ []
 
 pub sell_means : (schema : Schema) (at tree : ℕ) → TableExists schema at (vouchers tree)
     → IsSet schema sell_text at tree by_code sell_terms
@@ -46,7 +46,7 @@ abbrev pub refund_text : List ℕ
 refund_text = codes "UPDATE portal_vouchers SET refunded = ?2, amount = ?3 WHERE code = ?1"
 
 abbrev pub refund_terms : List Term
-refund_terms = col 1 0 ∷ col 1 1 ∷ col 1 2 ∷ col 1 3 ∷ col 1 4 ∷ col 0 1 ∷ col 0 2 ∷ []
+refund_terms = col 1 0 ∷ col 1 1 ∷ col 1 2 ∷ col 1 3 ∷ col 1 4 ∷ col 0 1 ∷ col 0 2 ∷ col 1 7 ∷ []
 
 pub refund_means : (schema : Schema) (at tree : ℕ) → TableExists schema at (vouchers tree)
     → IsSet schema refund_text at tree by_code refund_terms
@@ -113,7 +113,8 @@ abbrev pub set_used_text : List ℕ
 set_used_text = codes "UPDATE portal_sessions SET used = ?2 WHERE number = ?1"
 
 abbrev pub set_used_terms : List Term
-set_used_terms = col 1 0 ∷ lit Null ∷ col 1 2 ∷ col 1 3 ∷ col 1 4 ∷ col 0 1 ∷ col 1 6 ∷ []
+set_used_terms = col 1 0 ∷ lit Null ∷ col 1 2 ∷ col 1 3 ∷ col 1 4 ∷ col 0 1 ∷ col 1 6 ∷ col 1 7 ∷ col 1 8
+    ∷ []
 
 pub set_used_means : (schema : Schema) (at tree : ℕ) → TableExists schema at (sessions tree)
     → IsSet schema set_used_text at tree by_number set_used_terms
@@ -128,7 +129,8 @@ abbrev pub set_closed_text : List ℕ
 set_closed_text = codes "UPDATE portal_sessions SET closed = ?2 WHERE number = ?1"
 
 abbrev pub set_closed_terms : List Term
-set_closed_terms = col 1 0 ∷ lit Null ∷ col 1 2 ∷ col 1 3 ∷ col 1 4 ∷ col 1 5 ∷ col 0 1 ∷ []
+set_closed_terms = col 1 0 ∷ lit Null ∷ col 1 2 ∷ col 1 3 ∷ col 1 4 ∷ col 1 5 ∷ col 0 1 ∷ col 1 7
+    ∷ col 1 8 ∷ []
 
 pub set_closed_means : (schema : Schema) (at tree : ℕ) → TableExists schema at (sessions tree)
     → IsSet schema set_closed_text at tree by_number set_closed_terms
@@ -140,32 +142,34 @@ set_closed_means schema at tree exists =
     (λ base. simp (exists.named, exists.there, exists.low, exists.typed) refl)
 
 abbrev pub set_redeemed_text : List ℕ
-set_redeemed_text = codes "UPDATE portal_counts SET redeemed = ?2 WHERE code = ?1"
+set_redeemed_text = codes "UPDATE portal_vouchers SET redeemed = ?2 WHERE code = ?1"
 
 abbrev pub set_redeemed_terms : List Term
-set_redeemed_terms = col 1 0 ∷ col 1 1 ∷ col 0 1 ∷ []
+set_redeemed_terms = col 1 0 ∷ col 1 1 ∷ col 1 2 ∷ col 1 3 ∷ col 1 4 ∷ col 1 5 ∷ col 1 6 ∷ col 0 1 ∷ []
 
-pub set_redeemed_means : (schema : Schema) (at tree : ℕ) → TableExists schema at (counts tree)
+pub set_redeemed_means : (schema : Schema) (at tree : ℕ) → TableExists schema at (vouchers tree)
     → IsSet schema set_redeemed_text at tree by_code set_redeemed_terms
 unfolding everything
 set_redeemed_means schema at tree exists =
     means_is schema set_redeemed_text
-    (update_where counts_name ((codes "redeemed", expr.Parameter 2) ∷ []) (codes "code") (expr.Parameter 1))
+    (update_where vouchers_name ((codes "redeemed", expr.Parameter 2) ∷ []) (codes "code") (expr.Parameter 1))
     2 _ (record { parsed = _; read = refl; is = refl; timeless = refl; counted = refl }) refl (λ base. refl)
     (λ base. simp (exists.named, exists.there, exists.low, exists.typed) refl)
 
 abbrev pub set_total_text : List ℕ
-set_total_text = codes "UPDATE portal_totals SET ends = ?2, remaining = ?3 WHERE number = ?1"
+set_total_text = codes "UPDATE portal_sessions SET ends = ?2, remaining = ?3 WHERE number = ?1"
 
 abbrev pub set_total_terms : List Term
-set_total_terms = col 1 0 ∷ lit Null ∷ col 0 1 ∷ col 0 2 ∷ []
+set_total_terms = col 1 0 ∷ lit Null ∷ col 1 2 ∷ col 1 3 ∷ col 1 4 ∷ col 1 5 ∷ col 1 6 ∷ col 0 1 ∷ col 0 2
+    ∷ []
 
-pub set_total_means : (schema : Schema) (at tree : ℕ) → TableExists schema at (totals tree)
+pub set_total_means : (schema : Schema) (at tree : ℕ) → TableExists schema at (sessions tree)
     → IsSet schema set_total_text at tree by_number set_total_terms
 unfolding everything
 set_total_means schema at tree exists =
     means_is schema set_total_text
-    (update_where totals_name ((codes "ends", expr.Parameter 2) ∷ (codes "remaining", expr.Parameter 3) ∷ [])
+    (update_where sessions_name ((codes "ends", expr.Parameter 2) ∷ (codes "remaining", expr.Parameter 3) ∷
+    [])
     (codes "number") (expr.Parameter 1))
     3 _ (record { parsed = _; read = refl; is = refl; timeless = refl; counted = refl }) refl (λ base. refl)
     (λ base. simp (exists.named, exists.there, exists.low, exists.typed) refl)

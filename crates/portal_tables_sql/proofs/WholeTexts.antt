@@ -5,11 +5,13 @@ use Rattle.portal_tables_sql.proofs.Queries.{drafted, unlimited}
 use Rattle.portal_tables_sql.proofs.Lookup.{IsSelect, all_columns}
 use Rattle.portal_tables_sql.proofs.Selects.{select_means, up}
 use Rattle.portal_tables_sql.specs.Tables.{head_in, plans_in, batches_in, vouchers_in, sessions_in}
+use Rattle.portal_tables_sql.specs.Tables.{vouchers, sessions}
 use Rattle.portal_tables_sql.specs.Tables.{grants_in, counts_in, totals_in, requests_in}
 use Rattle.portal_tables_sql.specs.Tables.{plans_name, batches_name, vouchers_name, sessions_name}
 use Rattle.portal_tables_sql.specs.Tables.{grants_name, counts_name, totals_name, head_name, requests_name}
-use Rattle.portal_tables_sql.proofs.SelectTexts.{batch_columns, count_columns, plan_columns, session_columns}
-use Rattle.portal_tables_sql.proofs.SelectTexts.{total_columns, voucher_columns, head_columns}
+use Rattle.portal_tables_sql.proofs.SelectTexts.{batch_columns, plan_columns, session_columns}
+use Rattle.portal_tables_sql.proofs.SelectTexts.{voucher_columns, head_columns}
+use Rattle.portal_tables_sql.proofs.ListTexts.{total_columns}
 use Rattle.portal_tables_sql.proofs.RequestTexts.{request_columns}
 use Rattle.sqlite_tied.specs.Compute.{everything}
 use Rattle.portal_tables_sql.proofs.WholeTables.{by_rowid, has_rowids}
@@ -49,34 +51,34 @@ all_batches_means schema keyed at tree exists =
 
 abbrev pub all_vouchers_text : List ℕ
 all_vouchers_text =
-    codes "SELECT code, batch_id, place, sold, refunded, amount FROM portal_vouchers ORDER BY rowid"
+    codes "SELECT code, batch_id, place, sold, refunded, amount, redeemed FROM portal_vouchers "
+    ++ codes "ORDER BY rowid"
 
-pub all_vouchers_means : (schema : Schema) (keyed : Bool) (at tree : ℕ)
-    → TableExists schema at (vouchers_in keyed tree)
-    → IsSelect schema all_vouchers_text (vouchers_in keyed tree) [] by_rowid unlimited voucher_columns
+pub all_vouchers_means : (schema : Schema) (at tree : ℕ) → TableExists schema at (vouchers tree)
+    → IsSelect schema all_vouchers_text (vouchers tree) [] by_rowid unlimited voucher_columns
 unfolding everything
-all_vouchers_means schema keyed at tree exists =
+all_vouchers_means schema at tree exists =
     select_means schema all_vouchers_text vouchers_name voucher_columns None (up (codes "rowid")) None 0
     (lit (Int (negsuc 0)), lit (Int (pos 0)))
-    (drafted tree [] (all_columns (vouchers_in keyed tree)) by_rowid unlimited) (Some Binary
-    ∷ Some Binary ∷ Some Binary ∷ Some Binary ∷ Some Binary ∷ Some Binary ∷ [])
+    (drafted tree [] (all_columns (vouchers tree)) by_rowid unlimited) (Some Binary
+    ∷ Some Binary ∷ Some Binary ∷ Some Binary ∷ Some Binary ∷ Some Binary ∷ Some Binary ∷ [])
     (record { parsed = _; read = refl; is = refl; timeless = refl; counted = refl }) refl refl
     (simp (exists.named, exists.there, has_rowids tree exists.low) refl)
     (simp (exists.low, exists.typed) refl) refl (λ base. refl)
 
 abbrev pub all_sessions_text : List ℕ
 all_sessions_text =
-    codes "SELECT number, device, plan_id, opened, used, closed FROM portal_sessions ORDER BY number"
+    codes "SELECT number, device, plan_id, opened, used, closed, ends, remaining FROM portal_sessions "
+    ++ codes "ORDER BY number"
 
-pub all_sessions_means : (schema : Schema) (keyed : Bool) (at tree : ℕ)
-    → TableExists schema at (sessions_in keyed tree)
-    → IsSelect schema all_sessions_text (sessions_in keyed tree) [] by_rowid unlimited session_columns
+pub all_sessions_means : (schema : Schema) (at tree : ℕ) → TableExists schema at (sessions tree)
+    → IsSelect schema all_sessions_text (sessions tree) [] by_rowid unlimited session_columns
 unfolding everything
-all_sessions_means schema keyed at tree exists =
+all_sessions_means schema at tree exists =
     select_means schema all_sessions_text sessions_name session_columns None (up (codes "number")) None 0
     (lit (Int (negsuc 0)), lit (Int (pos 0)))
-    (drafted tree [] (all_columns (sessions_in keyed tree)) by_rowid unlimited) (None
-    ∷ Some Binary ∷ Some Binary ∷ Some Binary ∷ Some Binary ∷ Some Binary ∷ [])
+    (drafted tree [] (all_columns (sessions tree)) by_rowid unlimited) (None
+    ∷ Some Binary ∷ Some Binary ∷ Some Binary ∷ Some Binary ∷ Some Binary ∷ Some Binary ∷ Some Binary ∷ [])
     (record { parsed = _; read = refl; is = refl; timeless = refl; counted = refl }) refl refl
     (simp (exists.named, exists.there) refl) (simp (exists.low, exists.typed) refl) refl (λ base. refl)
 
@@ -97,36 +99,6 @@ all_grants_means schema keyed at tree exists =
     (lit (Int (negsuc 0)), lit (Int (pos 0)))
     (drafted tree [] (all_columns (grants_in keyed tree)) by_rowid unlimited) (None
     ∷ Some Binary ∷ Some Binary ∷ Some Binary ∷ Some Binary ∷ Some Binary ∷ [])
-    (record { parsed = _; read = refl; is = refl; timeless = refl; counted = refl }) refl refl
-    (simp (exists.named, exists.there) refl) (simp (exists.low, exists.typed) refl) refl (λ base. refl)
-
-abbrev pub all_counts_text : List ℕ
-all_counts_text = codes "SELECT code, redeemed FROM portal_counts ORDER BY rowid"
-
-pub all_counts_means : (schema : Schema) (keyed : Bool) (at tree : ℕ)
-    → TableExists schema at (counts_in keyed tree)
-    → IsSelect schema all_counts_text (counts_in keyed tree) [] by_rowid unlimited count_columns
-unfolding everything
-all_counts_means schema keyed at tree exists =
-    select_means schema all_counts_text counts_name count_columns None (up (codes "rowid")) None 0
-    (lit (Int (negsuc 0)), lit (Int (pos 0)))
-    (drafted tree [] (all_columns (counts_in keyed tree)) by_rowid unlimited) (Some Binary ∷ Some Binary ∷ [])
-    (record { parsed = _; read = refl; is = refl; timeless = refl; counted = refl }) refl refl
-    (simp (exists.named, exists.there, has_rowids tree exists.low) refl)
-    (simp (exists.low, exists.typed) refl) refl (λ base. refl)
-
-abbrev pub all_totals_text : List ℕ
-all_totals_text = codes "SELECT number, ends, remaining FROM portal_totals ORDER BY number"
-
-pub all_totals_means : (schema : Schema) (keyed : Bool) (at tree : ℕ)
-    → TableExists schema at (totals_in keyed tree)
-    → IsSelect schema all_totals_text (totals_in keyed tree) [] by_rowid unlimited total_columns
-unfolding everything
-all_totals_means schema keyed at tree exists =
-    select_means schema all_totals_text totals_name total_columns None (up (codes "number")) None 0
-    (lit (Int (negsuc 0)), lit (Int (pos 0)))
-    (drafted tree [] (all_columns (totals_in keyed tree)) by_rowid unlimited)
-    (None ∷ Some Binary ∷ Some Binary ∷ [])
     (record { parsed = _; read = refl; is = refl; timeless = refl; counted = refl }) refl refl
     (simp (exists.named, exists.there) refl) (simp (exists.low, exists.typed) refl) refl (λ base. refl)
 
@@ -164,3 +136,79 @@ all_requests_means schema keyed at tree exists =
     (record { parsed = _; read = refl; is = refl; timeless = refl; counted = refl }) refl refl
     (simp (exists.named, exists.there, has_rowids tree exists.low) refl)
     (simp (exists.low, exists.typed) refl) refl (λ base. refl)
+
+-- ---- the tables that keep counters apart, and those whose counters are apart
+
+abbrev pub old_voucher_columns : List (List ℕ)
+old_voucher_columns =
+    codes "code" ∷ codes "batch_id" ∷ codes "place" ∷ codes "sold" ∷ codes "refunded" ∷ codes "amount" ∷ []
+
+abbrev pub old_session_columns : List (List ℕ)
+old_session_columns =
+    codes "number" ∷ codes "device" ∷ codes "plan_id" ∷ codes "opened" ∷ codes "used" ∷ codes "closed" ∷ []
+
+abbrev pub count_columns : List (List ℕ)
+count_columns = codes "code" ∷ codes "redeemed" ∷ []
+
+abbrev pub old_vouchers_text : List ℕ
+old_vouchers_text =
+    codes "SELECT code, batch_id, place, sold, refunded, amount FROM portal_vouchers ORDER BY rowid"
+
+pub old_vouchers_means : (schema : Schema) (keyed : Bool) (at tree : ℕ)
+    → TableExists schema at (vouchers_in keyed tree)
+    → IsSelect schema old_vouchers_text (vouchers_in keyed tree) [] by_rowid unlimited old_voucher_columns
+unfolding everything
+old_vouchers_means schema keyed at tree exists =
+    select_means schema old_vouchers_text vouchers_name old_voucher_columns None (up (codes "rowid")) None 0
+    (lit (Int (negsuc 0)), lit (Int (pos 0)))
+    (drafted tree [] (all_columns (vouchers_in keyed tree)) by_rowid unlimited) (Some Binary
+    ∷ Some Binary ∷ Some Binary ∷ Some Binary ∷ Some Binary ∷ Some Binary ∷ [])
+    (record { parsed = _; read = refl; is = refl; timeless = refl; counted = refl }) refl refl
+    (simp (exists.named, exists.there, has_rowids tree exists.low) refl)
+    (simp (exists.low, exists.typed) refl) refl (λ base. refl)
+
+abbrev pub old_sessions_text : List ℕ
+old_sessions_text =
+    codes "SELECT number, device, plan_id, opened, used, closed FROM portal_sessions ORDER BY number"
+
+pub old_sessions_means : (schema : Schema) (keyed : Bool) (at tree : ℕ)
+    → TableExists schema at (sessions_in keyed tree)
+    → IsSelect schema old_sessions_text (sessions_in keyed tree) [] by_rowid unlimited old_session_columns
+unfolding everything
+old_sessions_means schema keyed at tree exists =
+    select_means schema old_sessions_text sessions_name old_session_columns None (up (codes "number")) None 0
+    (lit (Int (negsuc 0)), lit (Int (pos 0)))
+    (drafted tree [] (all_columns (sessions_in keyed tree)) by_rowid unlimited) (None
+    ∷ Some Binary ∷ Some Binary ∷ Some Binary ∷ Some Binary ∷ Some Binary ∷ [])
+    (record { parsed = _; read = refl; is = refl; timeless = refl; counted = refl }) refl refl
+    (simp (exists.named, exists.there) refl) (simp (exists.low, exists.typed) refl) refl (λ base. refl)
+
+abbrev pub old_counts_text : List ℕ
+old_counts_text = codes "SELECT code, redeemed FROM portal_counts ORDER BY rowid"
+
+pub old_counts_means : (schema : Schema) (keyed : Bool) (at tree : ℕ)
+    → TableExists schema at (counts_in keyed tree)
+    → IsSelect schema old_counts_text (counts_in keyed tree) [] by_rowid unlimited count_columns
+unfolding everything
+old_counts_means schema keyed at tree exists =
+    select_means schema old_counts_text counts_name count_columns None (up (codes "rowid")) None 0
+    (lit (Int (negsuc 0)), lit (Int (pos 0)))
+    (drafted tree [] (all_columns (counts_in keyed tree)) by_rowid unlimited) (Some Binary ∷ Some Binary ∷ [])
+    (record { parsed = _; read = refl; is = refl; timeless = refl; counted = refl }) refl refl
+    (simp (exists.named, exists.there, has_rowids tree exists.low) refl)
+    (simp (exists.low, exists.typed) refl) refl (λ base. refl)
+
+abbrev pub old_totals_text : List ℕ
+old_totals_text = codes "SELECT number, ends, remaining FROM portal_totals ORDER BY number"
+
+pub old_totals_means : (schema : Schema) (keyed : Bool) (at tree : ℕ)
+    → TableExists schema at (totals_in keyed tree)
+    → IsSelect schema old_totals_text (totals_in keyed tree) [] by_rowid unlimited total_columns
+unfolding everything
+old_totals_means schema keyed at tree exists =
+    select_means schema old_totals_text totals_name total_columns None (up (codes "number")) None 0
+    (lit (Int (negsuc 0)), lit (Int (pos 0)))
+    (drafted tree [] (all_columns (totals_in keyed tree)) by_rowid unlimited)
+    (None ∷ Some Binary ∷ Some Binary ∷ [])
+    (record { parsed = _; read = refl; is = refl; timeless = refl; counted = refl }) refl refl
+    (simp (exists.named, exists.there) refl) (simp (exists.low, exists.typed) refl) refl (λ base. refl)

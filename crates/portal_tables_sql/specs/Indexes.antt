@@ -60,12 +60,6 @@ described_index by.GrantsByCode = record {
   columns = 2 ∷ [];
   create = codes "CREATE INDEX portal_grants_by_code ON portal_grants (code)";
 }
-described_index by.CountsByCode = record {
-  name = codes "portal_counts_by_code";
-  table = our.Counts;
-  columns = 1 ∷ [];
-  create = codes "CREATE INDEX portal_counts_by_code ON portal_counts (code)";
-}
 described_index by.RequestsByKey = record {
   name = codes "portal_requests_by_key";
   table = our.Requests;
@@ -75,7 +69,11 @@ described_index by.RequestsByKey = record {
 
 abbrev pub our_indexes : List OurIndex
 our_indexes = by.PlansById ∷ by.BatchesById ∷ by.BatchesByIssue ∷ by.VouchersByCode ∷ by.VouchersByBatch
-    ∷ by.SessionsByDevice ∷ by.GrantsByCode ∷ by.CountsByCode ∷ by.RequestsByKey ∷ []
+    ∷ by.SessionsByDevice ∷ by.GrantsByCode ∷ by.RequestsByKey ∷ []
+
+-- the index of portal_counts, which schema version 5 has
+abbrev pub old_index_name : List ℕ
+old_index_name = codes "portal_counts_by_code"
 
 -- the index is this one, on the table with the tree
 pub record IsOurIndex (x : OurIndex) (index : Index) (tree : ℕ) : Type 0 where

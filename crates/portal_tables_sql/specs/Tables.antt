@@ -1,7 +1,9 @@
 -- The tables of all schema versions, each with its tree, and the statements that create them.
 -- Up to version 4 their ids and codes are PRIMARY KEYs, and REFERENCES and UNIQUE clauses keep them; since
--- version 5 only numbers are keys, and indexes find the rest.
-use Rattle.std.specs.Prelude.{◌++◌, Bool, true, false, if◌then◌else◌, [], ◌∷◌, Some, None, codes, List, ℕ}
+-- version 5 only numbers are keys, and indexes find the rest. Up to version 5 the counters are in tables of
+-- their own; since version 6 they are columns.
+use Rattle.std.specs.Prelude.{◌≤◌, ◌++◌, Bool, true, false, if◌then◌else◌, [], ◌∷◌, Some, None, codes}
+use Rattle.std.specs.Prelude.{List, ℕ}
 use Rattle.sqlite.specs.Collation.TheVariants.{Binary}
 use Rattle.sqlite.specs.declared.types.Value.TheVariants.{Null}
 use Rattle.sqlite.specs.Kind.{Kind}
@@ -50,6 +52,17 @@ refers place parent key = record {
   on_update = NoAction;
   is_deferred = false;
 }
+
+-- how the tables of a schema version are made
+pub data Layout : Type 0 where
+  -- the counters in tables of their own, and all tables with their clauses or without
+  Apart : Bool → Layout
+  -- the counters as columns, and no clauses
+  Together : Layout
+
+abbrev pub keeps_clauses : Layout → Bool
+keeps_clauses (Apart keyed) = keyed
+keeps_clauses Together = false
 
 -- what stands in the schema only where the table has its clauses
 abbrev pub clauses : {X : Type 0} → Bool → List X → List X
@@ -134,18 +147,24 @@ batches_in =
     ∷ int (codes "expires") ∷ int (codes "size") ∷ []) ((1 ∷ []) ∷ []) (plain ∷ [])
     (refers 2 plans_name (codes "id") ∷ [])
 
-abbrev pub vouchers_in : Bool → ℕ → Table
-vouchers_in =
-    table_with_key vouchers_name
-    (text (codes "code") ∷ text (codes "batch_id") ∷ int (codes "place") ∷ int_or_null (codes "sold")
-    ∷ int_or_null (codes "refunded") ∷ int_or_null (codes "amount") ∷ [])
-    ((1 ∷ []) ∷ (2 ∷ 3 ∷ []) ∷ []) (plain ∷ plain ∷ []) (refers 2 batches_name (codes "id") ∷ [])
+abbrev pub old_voucher_columns : List Column
+old_voucher_columns =
+    text (codes "code") ∷ text (codes "batch_id") ∷ int (codes "place") ∷ int_or_null (codes "sold")
+    ∷ int_or_null (codes "refunded") ∷ int_or_null (codes "amount") ∷ []
 
+-- without counters
+abbrev pub vouchers_in : Bool → ℕ → Table
+vouchers_in = table_with_key vouchers_name old_voucher_columns ((1 ∷ []) ∷ (2 ∷ 3 ∷ []) ∷ [])
+    (plain ∷ plain ∷ []) (refers 2 batches_name (codes "id") ∷ [])
+
+abbrev pub old_session_columns : List Column
+old_session_columns =
+    int_or_null (codes "number") ∷ text (codes "device") ∷ text (codes "plan_id") ∷ int (codes "opened")
+    ∷ int (codes "used") ∷ int_or_null (codes "closed") ∷ []
+
+-- without counters
 abbrev pub sessions_in : Bool → ℕ → Table
-sessions_in keyed =
-    table_with_number sessions_name
-    (int_or_null (codes "number") ∷ text (codes "device") ∷ text (codes "plan_id") ∷ int (codes "opened")
-    ∷ int (codes "used") ∷ int_or_null (codes "closed") ∷ [])
+sessions_in keyed = table_with_number sessions_name old_session_columns
     (clauses keyed (refers 3 plans_name (codes "id") ∷ []))
 
 abbrev pub grants_in : Bool → ℕ → Table
@@ -195,23 +214,28 @@ plans = plans_in false
 abbrev pub batches : ℕ → Table
 batches = batches_in false
 
+-- with how often each was redeemed
 abbrev pub vouchers : ℕ → Table
-vouchers = vouchers_in false
+vouchers = table_with_key vouchers_name (old_voucher_columns ++ int (codes "redeemed") ∷ []) [] [] [] false
 
+-- with the end of each and its remaining allowance
 abbrev pub sessions : ℕ → Table
-sessions = sessions_in false
+sessions = table_with_number sessions_name
+    (old_session_columns ++ int_or_null (codes "ends") ∷ int_or_null (codes "remaining") ∷ []) []
 
 abbrev pub grants : ℕ → Table
 grants = grants_in false
+
+abbrev pub requests : ℕ → Table
+requests = requests_in false
+
+-- ---- the tables that version 5 has beside them
 
 abbrev pub counts : ℕ → Table
 counts = counts_in false
 
 abbrev pub totals : ℕ → Table
 totals = totals_in false
-
-abbrev pub requests : ℕ → Table
-requests = requests_in false
 
 -- ---- the statements that create them
 
@@ -234,13 +258,14 @@ create_batches =
 abbrev pub create_vouchers : List ℕ
 create_vouchers =
     codes "CREATE TABLE portal_vouchers (code TEXT NOT NULL, batch_id TEXT NOT NULL, "
-    ++ codes "place INTEGER NOT NULL, sold INTEGER, refunded INTEGER, amount INTEGER) STRICT"
+    ++ codes "place INTEGER NOT NULL, sold INTEGER, refunded INTEGER, amount INTEGER, "
+    ++ codes "redeemed INTEGER NOT NULL) STRICT"
 
 abbrev pub create_sessions : List ℕ
 create_sessions =
     codes "CREATE TABLE portal_sessions (number INTEGER PRIMARY KEY, device TEXT NOT NULL, "
     ++ codes "plan_id TEXT NOT NULL, opened INTEGER NOT NULL, used INTEGER NOT NULL, "
-    ++ codes "closed INTEGER) STRICT"
+    ++ codes "closed INTEGER, ends INTEGER, remaining INTEGER) STRICT"
 
 abbrev pub create_grants : List ℕ
 create_grants =
@@ -264,30 +289,41 @@ create_requests =
 
 -- ---- the description of each table
 
--- a table, with its clauses or without, by the number of its tree; the statement that creates it; and the
--- schema version that added it (0: each version has it)
+-- a table in each layout, by the number of its tree; the statement that creates it; and the schema version
+-- that added it (0: each version has it)
 pub record Description : Type 0 where
-  pub table : Bool → ℕ → Table
+  pub table : Layout → ℕ → Table
   pub create : List ℕ
   pub since : ℕ
 
+-- where the counters are apart, the vouchers and the sessions have no columns for them
+abbrev pub vouchers_by : Layout → ℕ → Table
+vouchers_by (Apart keyed) = vouchers_in keyed
+vouchers_by Together = vouchers
+
+abbrev pub sessions_by : Layout → ℕ → Table
+sessions_by (Apart keyed) = sessions_in keyed
+sessions_by Together = sessions
+
 abbrev pub described : OurTable → Description
-described our.Head = record { table = head_in; create = create_head; since = 0 }
-described our.Plans = record { table = plans_in; create = create_plans; since = 0 }
-described our.Batches = record { table = batches_in; create = create_batches; since = 0 }
-described our.Vouchers = record { table = vouchers_in; create = create_vouchers; since = 0 }
-described our.Sessions = record { table = sessions_in; create = create_sessions; since = 0 }
-described our.Grants = record { table = grants_in; create = create_grants; since = 0 }
-described our.Counts = record { table = counts_in; create = create_counts; since = 2 }
-described our.Totals = record { table = totals_in; create = create_totals; since = 2 }
-described our.Requests = record { table = requests_in; create = create_requests; since = 3 }
+described our.Head = record { table = λ l. head_in (keeps_clauses l); create = create_head; since = 0 }
+described our.Plans = record { table = λ l. plans_in (keeps_clauses l); create = create_plans; since = 0 }
+described our.Batches =
+    record { table = λ l. batches_in (keeps_clauses l); create = create_batches; since = 0 }
+described our.Vouchers = record { table = vouchers_by; create = create_vouchers; since = 0 }
+described our.Sessions = record { table = sessions_by; create = create_sessions; since = 0 }
+described our.Grants = record { table = λ l. grants_in (keeps_clauses l); create = create_grants; since = 0 }
+described our.Counts = record { table = λ l. counts_in (keeps_clauses l); create = create_counts; since = 2 }
+described our.Totals = record { table = λ l. totals_in (keeps_clauses l); create = create_totals; since = 2 }
+described our.Requests =
+    record { table = λ l. requests_in (keeps_clauses l); create = create_requests; since = 3 }
 
--- with its clauses, or without
-abbrev pub table_in : Bool → OurTable → ℕ → Table
-table_in keyed x = (described x).table keyed
+abbrev pub table_in : Layout → OurTable → ℕ → Table
+table_in layout x = (described x).table layout
 
+-- in this schema version
 abbrev pub table_of : OurTable → ℕ → Table
-table_of x = table_in false x
+table_of x = table_in Together x
 
 abbrev pub name_of : OurTable → List ℕ
 name_of x = (table_of x 0).name
@@ -295,10 +331,47 @@ name_of x = (table_of x 0).name
 abbrev pub since : OurTable → ℕ
 since x = (described x).since
 
+-- the table is there for counters that are kept apart
+abbrev pub is_for_counters : OurTable → Bool
+is_for_counters our.Head = false
+is_for_counters our.Plans = false
+is_for_counters our.Batches = false
+is_for_counters our.Vouchers = false
+is_for_counters our.Sessions = false
+is_for_counters our.Grants = false
+is_for_counters our.Counts = true
+is_for_counters our.Totals = true
+is_for_counters our.Requests = false
+
+-- such a table is in no layout but those that keep the counters apart
+abbrev pub IsLaidOut : Bool → Layout → Type 0
+IsLaidOut false layout = Unit {0}
+IsLaidOut true (Apart keyed) = Unit {0}
+IsLaidOut true Together = ⊥
+
+-- a schema version with this layout has the table
+abbrev pub IsTableIn : Layout → ℕ → OurTable → Type 0
+IsTableIn layout schema_version x = (since x ≤ schema_version) × IsLaidOut (is_for_counters x) layout
+
 abbrev pub create_of : OurTable → List ℕ
 create_of x = (described x).create
 
--- a table comes after those that it refers to
 abbrev pub our_tables : List OurTable
 our_tables = our.Head ∷ our.Plans ∷ our.Batches ∷ our.Vouchers ∷ our.Sessions ∷ our.Grants ∷ our.Counts
     ∷ our.Totals ∷ our.Requests ∷ []
+
+-- those of this schema version
+abbrev pub current_tables : List OurTable
+current_tables = our.Head ∷ our.Plans ∷ our.Batches ∷ our.Vouchers ∷ our.Sessions ∷ our.Grants
+    ∷ our.Requests ∷ []
+
+abbrev pub drop_of : OurTable → List ℕ
+drop_of our.Head = codes "DROP TABLE portal_head"
+drop_of our.Plans = codes "DROP TABLE portal_plans"
+drop_of our.Batches = codes "DROP TABLE portal_batches"
+drop_of our.Vouchers = codes "DROP TABLE portal_vouchers"
+drop_of our.Sessions = codes "DROP TABLE portal_sessions"
+drop_of our.Grants = codes "DROP TABLE portal_grants"
+drop_of our.Counts = codes "DROP TABLE portal_counts"
+drop_of our.Totals = codes "DROP TABLE portal_totals"
+drop_of our.Requests = codes "DROP TABLE portal_requests"

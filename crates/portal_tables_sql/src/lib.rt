@@ -2,6 +2,7 @@
 //! answers, and testing whether new tables can be added to a schema.
 #![tactic(auto)]
 
+pub mod copied_tables;
 pub mod our_indexes;
 pub mod our_tables;
 pub mod query;

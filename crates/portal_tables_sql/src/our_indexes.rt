@@ -6,8 +6,8 @@ ghost use Rattle.portal_tables_sql.specs.Indexes.{described_index};
 
 use crate::our_tables::OurTable;
 use crate::statements::{
-    INDEX_BATCHES_BY_ID, INDEX_BATCHES_BY_ISSUE, INDEX_COUNTS_BY_CODE, INDEX_GRANTS_BY_CODE,
-    INDEX_PLANS_BY_ID, INDEX_REQUESTS_BY_KEY, INDEX_SESSIONS_BY_DEVICE, INDEX_VOUCHERS_BY_BATCH,
+    INDEX_BATCHES_BY_ID, INDEX_BATCHES_BY_ISSUE, INDEX_GRANTS_BY_CODE, INDEX_PLANS_BY_ID,
+    INDEX_REQUESTS_BY_KEY, INDEX_SESSIONS_BY_DEVICE, INDEX_VOUCHERS_BY_BATCH,
     INDEX_VOUCHERS_BY_CODE,
 };
 
@@ -21,12 +21,11 @@ pub enum OurIndex {
     VouchersByBatch,
     SessionsByDevice,
     GrantsByCode,
-    CountsByCode,
     RequestsByKey,
 }
 
 /// The product's indexes.
-pub const OUR_INDEXES: [OurIndex; 9] = [
+pub const OUR_INDEXES: [OurIndex; 8] = [
     OurIndex::PlansById,
     OurIndex::BatchesById,
     OurIndex::BatchesByIssue,
@@ -34,9 +33,11 @@ pub const OUR_INDEXES: [OurIndex; 9] = [
     OurIndex::VouchersByBatch,
     OurIndex::SessionsByDevice,
     OurIndex::GrantsByCode,
-    OurIndex::CountsByCode,
     OurIndex::RequestsByKey,
 ];
+
+/// The name of the index of `portal_counts`, which schema version 5 has.
+pub const OLD_INDEX_NAME: &[u8] = b"portal_counts_by_code";
 
 impl OurIndex {
     /// The name of the index.
@@ -51,7 +52,6 @@ impl OurIndex {
             OurIndex::VouchersByBatch => b"portal_vouchers_by_batch",
             OurIndex::SessionsByDevice => b"portal_sessions_by_device",
             OurIndex::GrantsByCode => b"portal_grants_by_code",
-            OurIndex::CountsByCode => b"portal_counts_by_code",
             OurIndex::RequestsByKey => b"portal_requests_by_key",
         }
     }
@@ -68,7 +68,6 @@ impl OurIndex {
             OurIndex::VouchersByBatch => OurTable::Vouchers,
             OurIndex::SessionsByDevice => OurTable::Sessions,
             OurIndex::GrantsByCode => OurTable::Grants,
-            OurIndex::CountsByCode => OurTable::Counts,
             OurIndex::RequestsByKey => OurTable::Requests,
         }
     }
@@ -85,7 +84,6 @@ impl OurIndex {
             OurIndex::VouchersByBatch => &[2, 3],
             OurIndex::SessionsByDevice => &[2, 0],
             OurIndex::GrantsByCode => &[2],
-            OurIndex::CountsByCode => &[1],
             OurIndex::RequestsByKey => &[1, 2],
         }
     }
@@ -102,7 +100,6 @@ impl OurIndex {
             OurIndex::VouchersByBatch => INDEX_VOUCHERS_BY_BATCH,
             OurIndex::SessionsByDevice => INDEX_SESSIONS_BY_DEVICE,
             OurIndex::GrantsByCode => INDEX_GRANTS_BY_CODE,
-            OurIndex::CountsByCode => INDEX_COUNTS_BY_CODE,
             OurIndex::RequestsByKey => INDEX_REQUESTS_BY_KEY,
         }
     }

@@ -1,21 +1,16 @@
-//! The product's tables, of all schema versions: the name of each, and the statements that create, copy and
-//! drop it.
+//! The product's tables, of all schema versions: the name of each, and the statements that create and drop
+//! it.
 
 ghost use Rattle.std.specs.Prelude.{◌≡◌};
-ghost use Rattle.portal_tables_sql.specs.Copies.{drop_of, insert_of, select_of};
-ghost use Rattle.portal_tables_sql.specs.Tables.{create_of, name_of};
+ghost use Rattle.portal_tables_sql.specs.Tables.{create_of, drop_of, name_of};
 
 use crate::statements::{
     CREATE_BATCHES, CREATE_COUNTS, CREATE_GRANTS, CREATE_HEAD, CREATE_PLANS, CREATE_REQUESTS,
     CREATE_SESSIONS, CREATE_TOTALS, CREATE_VOUCHERS, DROP_BATCHES, DROP_COUNTS, DROP_GRANTS,
-    DROP_HEAD, DROP_PLANS, DROP_REQUESTS, DROP_SESSIONS, DROP_TOTALS, DROP_VOUCHERS, INSERT_BATCH,
-    INSERT_COUNT, INSERT_GRANT, INSERT_PLAN, INSERT_REQUEST, INSERT_TOTAL, INSERT_WHOLE_HEAD,
-    INSERT_WHOLE_SESSION, INSERT_WHOLE_VOUCHER, SELECT_ALL_BATCHES, SELECT_ALL_COUNTS,
-    SELECT_ALL_GRANTS, SELECT_ALL_HEADS, SELECT_ALL_PLANS, SELECT_ALL_REQUESTS,
-    SELECT_ALL_SESSIONS, SELECT_ALL_TOTALS, SELECT_ALL_VOUCHERS,
+    DROP_HEAD, DROP_PLANS, DROP_REQUESTS, DROP_SESSIONS, DROP_TOTALS, DROP_VOUCHERS,
 };
 
-/// A table of the product.
+/// A table of the product. `Counts` and `Totals` are of the schema versions 2 to 5.
 #[derive(Clone, Copy, Debug, PartialEq, Eq)]
 pub enum OurTable {
     Head,
@@ -29,7 +24,7 @@ pub enum OurTable {
     Requests,
 }
 
-/// The product's tables. A table comes after those that it refers to.
+/// The product's tables, of all schema versions.
 pub const OUR_TABLES: [OurTable; 9] = [
     OurTable::Head,
     OurTable::Plans,
@@ -39,6 +34,17 @@ pub const OUR_TABLES: [OurTable; 9] = [
     OurTable::Grants,
     OurTable::Counts,
     OurTable::Totals,
+    OurTable::Requests,
+];
+
+/// The tables of this schema version.
+pub const CURRENT_TABLES: [OurTable; 7] = [
+    OurTable::Head,
+    OurTable::Plans,
+    OurTable::Batches,
+    OurTable::Vouchers,
+    OurTable::Sessions,
+    OurTable::Grants,
     OurTable::Requests,
 ];
 
@@ -74,40 +80,6 @@ impl OurTable {
             OurTable::Counts => CREATE_COUNTS,
             OurTable::Totals => CREATE_TOTALS,
             OurTable::Requests => CREATE_REQUESTS,
-        }
-    }
-
-    /// The SELECT of all columns of all its rows, in the order of the rowids.
-    pub fn select_statement(self) -> &'static str
-        ensures { result.now ≡ select_of self }
-    {
-        match self {
-            OurTable::Head => SELECT_ALL_HEADS,
-            OurTable::Plans => SELECT_ALL_PLANS,
-            OurTable::Batches => SELECT_ALL_BATCHES,
-            OurTable::Vouchers => SELECT_ALL_VOUCHERS,
-            OurTable::Sessions => SELECT_ALL_SESSIONS,
-            OurTable::Grants => SELECT_ALL_GRANTS,
-            OurTable::Counts => SELECT_ALL_COUNTS,
-            OurTable::Totals => SELECT_ALL_TOTALS,
-            OurTable::Requests => SELECT_ALL_REQUESTS,
-        }
-    }
-
-    /// The INSERT of a row with all its columns.
-    pub fn insert_statement(self) -> &'static str
-        ensures { result.now ≡ insert_of self }
-    {
-        match self {
-            OurTable::Head => INSERT_WHOLE_HEAD,
-            OurTable::Plans => INSERT_PLAN,
-            OurTable::Batches => INSERT_BATCH,
-            OurTable::Vouchers => INSERT_WHOLE_VOUCHER,
-            OurTable::Sessions => INSERT_WHOLE_SESSION,
-            OurTable::Grants => INSERT_GRANT,
-            OurTable::Counts => INSERT_COUNT,
-            OurTable::Totals => INSERT_TOTAL,
-            OurTable::Requests => INSERT_REQUEST,
         }
     }
 

@@ -95,7 +95,8 @@ pub const SELECT_ALL_BATCHES: &str =
 
 pub const CREATE_VOUCHERS: &str =
     "CREATE TABLE portal_vouchers (code TEXT NOT NULL, batch_id TEXT NOT NULL, \
-     place INTEGER NOT NULL, sold INTEGER, refunded INTEGER, amount INTEGER) STRICT";
+     place INTEGER NOT NULL, sold INTEGER, refunded INTEGER, amount INTEGER, \
+     redeemed INTEGER NOT NULL) STRICT";
 
 pub const DROP_VOUCHERS: &str = "DROP TABLE portal_vouchers";
 
@@ -107,26 +108,28 @@ pub const INDEX_VOUCHERS_BY_CODE: &str =
 pub const INDEX_VOUCHERS_BY_BATCH: &str =
     "CREATE INDEX portal_vouchers_by_batch ON portal_vouchers (batch_id, place)";
 
+/// A voucher that was not redeemed.
 pub const INSERT_VOUCHER: &str =
-    "INSERT INTO portal_vouchers (code, batch_id, place) VALUES (?1, ?2, ?3)";
+    "INSERT INTO portal_vouchers (code, batch_id, place, redeemed) VALUES (?1, ?2, ?3, 0)";
 
-/// A voucher with its sale and its refund.
+/// A voucher with its sale, its refund and its count.
 pub const INSERT_WHOLE_VOUCHER: &str =
-    "INSERT INTO portal_vouchers (code, batch_id, place, sold, refunded, amount) \
-     VALUES (?1, ?2, ?3, ?4, ?5, ?6)";
+    "INSERT INTO portal_vouchers (code, batch_id, place, sold, refunded, amount, redeemed) \
+     VALUES (?1, ?2, ?3, ?4, ?5, ?6, ?7)";
 
 /// The voucher with a code.
 pub const SELECT_VOUCHER: &str =
-    "SELECT code, batch_id, place, sold, refunded, amount FROM portal_vouchers WHERE code = ?1";
+    "SELECT code, batch_id, place, sold, refunded, amount, redeemed FROM portal_vouchers \
+     WHERE code = ?1";
 
 /// The vouchers of a batch, ordered by place.
 pub const SELECT_BATCH_VOUCHERS: &str =
-    "SELECT code, batch_id, place, sold, refunded, amount FROM portal_vouchers \
+    "SELECT code, batch_id, place, sold, refunded, amount, redeemed FROM portal_vouchers \
      WHERE batch_id = ?1 ORDER BY place";
 
 /// The first 51 vouchers, by their codes, from one text on and below another one.
 pub const SELECT_VOUCHERS_BETWEEN: &str =
-    "SELECT code, batch_id, place, sold, refunded, amount FROM portal_vouchers \
+    "SELECT code, batch_id, place, sold, refunded, amount, redeemed FROM portal_vouchers \
      WHERE code >= ?1 AND code < ?2 ORDER BY code LIMIT 51";
 
 /// The batch and the time of the sales between two times, in the order of issue.
@@ -135,16 +138,21 @@ pub const SELECT_SALES_AS_ISSUED: &str =
 
 /// The vouchers that were sold between two times, by the time of sale.
 pub const SELECT_SOLD_VOUCHERS: &str =
-    "SELECT code, batch_id, place, sold, refunded, amount FROM portal_vouchers \
+    "SELECT code, batch_id, place, sold, refunded, amount, redeemed FROM portal_vouchers \
      WHERE sold >= ?1 AND sold <= ?2 ORDER BY sold, code";
 
 /// The vouchers that were refunded between two times, by the time of refund.
 pub const SELECT_REFUNDED_VOUCHERS: &str =
-    "SELECT code, batch_id, place, sold, refunded, amount FROM portal_vouchers \
+    "SELECT code, batch_id, place, sold, refunded, amount, redeemed FROM portal_vouchers \
      WHERE refunded >= ?1 AND refunded <= ?2 ORDER BY refunded, code";
 
 /// All vouchers.
 pub const SELECT_ALL_VOUCHERS: &str =
+    "SELECT code, batch_id, place, sold, refunded, amount, redeemed FROM portal_vouchers \
+     ORDER BY rowid";
+
+/// All vouchers, in the columns that the schema versions up to 5 have.
+pub const SELECT_OLD_VOUCHERS: &str =
     "SELECT code, batch_id, place, sold, refunded, amount FROM portal_vouchers ORDER BY rowid";
 
 pub const SET_SOLD: &str = "UPDATE portal_vouchers SET sold = ?2 WHERE code = ?1";
@@ -152,12 +160,14 @@ pub const SET_SOLD: &str = "UPDATE portal_vouchers SET sold = ?2 WHERE code = ?1
 pub const SET_REFUNDED: &str =
     "UPDATE portal_vouchers SET refunded = ?2, amount = ?3 WHERE code = ?1";
 
+pub const SET_REDEEMED: &str = "UPDATE portal_vouchers SET redeemed = ?2 WHERE code = ?1";
+
 // ---- portal_sessions
 
 pub const CREATE_SESSIONS: &str =
     "CREATE TABLE portal_sessions (number INTEGER PRIMARY KEY, device TEXT NOT NULL, \
      plan_id TEXT NOT NULL, opened INTEGER NOT NULL, used INTEGER NOT NULL, \
-     closed INTEGER) STRICT";
+     closed INTEGER, ends INTEGER, remaining INTEGER) STRICT";
 
 pub const DROP_SESSIONS: &str = "DROP TABLE portal_sessions";
 
@@ -166,30 +176,43 @@ pub const INDEX_SESSIONS_BY_DEVICE: &str =
     "CREATE INDEX portal_sessions_by_device ON portal_sessions (device, number)";
 
 pub const INSERT_SESSION: &str =
-    "INSERT INTO portal_sessions (number, device, plan_id, opened, used) VALUES (?1, ?2, ?3, \
-     ?4, 0)";
+    "INSERT INTO portal_sessions (number, device, plan_id, opened, used, ends, remaining) \
+     VALUES (?1, ?2, ?3, ?4, 0, ?5, ?6)";
 
-/// A session with its use and its close.
+/// A session with its use, its close, its end and its remaining allowance.
 pub const INSERT_WHOLE_SESSION: &str =
-    "INSERT INTO portal_sessions (number, device, plan_id, opened, used, closed) \
-     VALUES (?1, ?2, ?3, ?4, ?5, ?6)";
+    "INSERT INTO portal_sessions (number, device, plan_id, opened, used, closed, ends, remaining) \
+     VALUES (?1, ?2, ?3, ?4, ?5, ?6, ?7, ?8)";
 
 /// The session with a number.
 pub const SELECT_SESSION: &str =
-    "SELECT number, device, plan_id, opened, used, closed FROM portal_sessions WHERE number = ?1";
+    "SELECT number, device, plan_id, opened, used, closed, ends, remaining FROM portal_sessions \
+     WHERE number = ?1";
 
 /// The device's session with the greatest number.
 pub const SELECT_LAST_SESSION: &str =
-    "SELECT number, device, plan_id, opened, used, closed FROM portal_sessions \
+    "SELECT number, device, plan_id, opened, used, closed, ends, remaining FROM portal_sessions \
      WHERE device = ?1 ORDER BY number DESC LIMIT 1";
 
 /// All sessions.
 pub const SELECT_ALL_SESSIONS: &str =
+    "SELECT number, device, plan_id, opened, used, closed, ends, remaining FROM portal_sessions \
+     ORDER BY number";
+
+/// All sessions, in the columns that the schema versions up to 5 have.
+pub const SELECT_OLD_SESSIONS: &str =
     "SELECT number, device, plan_id, opened, used, closed FROM portal_sessions ORDER BY number";
+
+/// The ends and the remaining allowances of all sessions.
+pub const SELECT_ALL_TOTALS: &str =
+    "SELECT number, ends, remaining FROM portal_sessions ORDER BY number";
 
 pub const SET_USED: &str = "UPDATE portal_sessions SET used = ?2 WHERE number = ?1";
 
 pub const SET_CLOSED: &str = "UPDATE portal_sessions SET closed = ?2 WHERE number = ?1";
+
+pub const SET_SESSION_TOTAL: &str =
+    "UPDATE portal_sessions SET ends = ?2, remaining = ?3 WHERE number = ?1";
 
 // ---- portal_grants
 
@@ -207,50 +230,39 @@ pub const INSERT_GRANT: &str =
     "INSERT INTO portal_grants (number, code, session, moment, seconds, bytes) VALUES (?1, \
      ?2, ?3, ?4, ?5, ?6)";
 
+/// The redemption with a number.
+pub const SELECT_GRANT: &str =
+    "SELECT number, code, session, moment, seconds, bytes FROM portal_grants WHERE number = ?1";
+
+/// The last 101 redemptions of the voucher with a code, the newest first.
+pub const SELECT_LAST_GRANTS: &str =
+    "SELECT number, code, session, moment, seconds, bytes FROM portal_grants WHERE code = ?1 \
+     ORDER BY number DESC LIMIT 101";
+
 /// All redemptions.
 pub const SELECT_ALL_GRANTS: &str =
     "SELECT number, code, session, moment, seconds, bytes FROM portal_grants ORDER BY number";
 
-// ---- portal_counts
+// ---- portal_counts, which the schema versions 2 to 5 have
 
 pub const CREATE_COUNTS: &str =
     "CREATE TABLE portal_counts (code TEXT NOT NULL, redeemed INTEGER NOT NULL) STRICT";
 
 pub const DROP_COUNTS: &str = "DROP TABLE portal_counts";
 
-/// The index by which the count of a voucher is found by its code.
-pub const INDEX_COUNTS_BY_CODE: &str = "CREATE INDEX portal_counts_by_code ON portal_counts (code)";
-
-pub const INSERT_COUNT: &str = "INSERT INTO portal_counts (code, redeemed) VALUES (?1, ?2)";
-
-/// How often the voucher with a code was redeemed.
-pub const SELECT_COUNT: &str = "SELECT code, redeemed FROM portal_counts WHERE code = ?1";
-
 /// The counts of all vouchers.
-pub const SELECT_ALL_COUNTS: &str = "SELECT code, redeemed FROM portal_counts ORDER BY rowid";
+pub const SELECT_OLD_COUNTS: &str = "SELECT code, redeemed FROM portal_counts ORDER BY rowid";
 
-pub const SET_REDEEMED: &str = "UPDATE portal_counts SET redeemed = ?2 WHERE code = ?1";
-
-// ---- portal_totals
+// ---- portal_totals, which the schema versions 2 to 5 have
 
 pub const CREATE_TOTALS: &str =
     "CREATE TABLE portal_totals (number INTEGER PRIMARY KEY, ends INTEGER, remaining INTEGER) STRICT";
 
 pub const DROP_TOTALS: &str = "DROP TABLE portal_totals";
 
-pub const INSERT_TOTAL: &str =
-    "INSERT INTO portal_totals (number, ends, remaining) VALUES (?1, ?2, ?3)";
-
-/// The end and the remaining allowance of the session with a number.
-pub const SELECT_TOTAL: &str =
-    "SELECT number, ends, remaining FROM portal_totals WHERE number = ?1";
-
 /// The ends and the remaining allowances of all sessions.
-pub const SELECT_ALL_TOTALS: &str =
+pub const SELECT_OLD_TOTALS: &str =
     "SELECT number, ends, remaining FROM portal_totals ORDER BY number";
-
-pub const SET_SESSION_TOTAL: &str =
-    "UPDATE portal_totals SET ends = ?2, remaining = ?3 WHERE number = ?1";
 
 // ---- portal_requests
 

@@ -1,6 +1,6 @@
 //! A connection that cannot be attached, and one that is attached after attempts that ran out of memory.
 use crate::sql::dump_database;
-use crate::versions::FIRST;
+use crate::versions::{FIRST, ROWS};
 use portal_tables::attaching::Refused;
 use portal_tables::errors::OpenFault;
 use portal_tables::tables::Tables;
@@ -61,6 +61,7 @@ fn attach_with_retries<S: Alter + Drop>(
 fn new_first_version(alloc: Global) -> Option<Connection<MemStore>> {
     let mut conn = Connection::open_in_memory(alloc).ok()?;
     conn.execute_batch(FIRST).ok()?;
+    conn.execute_batch(ROWS).ok()?;
     Some(conn)
 }
 

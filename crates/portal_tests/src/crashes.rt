@@ -6,7 +6,7 @@ use crate::day::{COMMANDS, SentRequest, build_questions, build_requests};
 use crate::disks::{CrashResult, InFiles};
 use crate::files::{AT_END, CrashPoint, Image, Part};
 use crate::jobs::{Job, JobResult};
-use crate::versions::{FIRST, FOURTH, SECOND, THIRD};
+use crate::versions::{COUNTERS, FIFTH, FIRST, FOURTH, REQUEST, ROWS, SECOND, THIRD};
 use portal_tables::errors::OpenFault;
 use std::alloc::Global;
 use std::process::Abort;
@@ -380,7 +380,7 @@ fn new_tables_with_database_crashes(rt: HostRuntime) -> Result<(), Fail> {
     crash_store_opening(rt.alloc(), &rt, &[], Part::Database)
 }
 
-const FIRST_STORE: &[&str] = &["BEGIN", FIRST, "COMMIT"];
+const FIRST_STORE: &[&str] = &["BEGIN", FIRST, ROWS, "COMMIT"];
 
 /// The migration of schema version 1, with a crash at each call of the log.
 #[test]
@@ -394,7 +394,7 @@ fn first_version_with_database_crashes(rt: HostRuntime) -> Result<(), Fail> {
     crash_store_opening(rt.alloc(), &rt, FIRST_STORE, Part::Database)
 }
 
-const SECOND_STORE: &[&str] = &["BEGIN", FIRST, SECOND, "COMMIT"];
+const SECOND_STORE: &[&str] = &["BEGIN", FIRST, ROWS, SECOND, COUNTERS, "COMMIT"];
 
 /// The migration of schema version 2, with a crash at each call of the log.
 #[test]
@@ -408,7 +408,9 @@ fn second_version_with_database_crashes(rt: HostRuntime) -> Result<(), Fail> {
     crash_store_opening(rt.alloc(), &rt, SECOND_STORE, Part::Database)
 }
 
-const THIRD_STORE: &[&str] = &["BEGIN", FIRST, SECOND, THIRD, "COMMIT"];
+const THIRD_STORE: &[&str] = &[
+    "BEGIN", FIRST, ROWS, SECOND, COUNTERS, THIRD, REQUEST, "COMMIT",
+];
 
 /// The migration of schema version 3, with a crash at each call of the log.
 #[test]
@@ -422,7 +424,9 @@ fn third_version_with_database_crashes(rt: HostRuntime) -> Result<(), Fail> {
     crash_store_opening(rt.alloc(), &rt, THIRD_STORE, Part::Database)
 }
 
-const FOURTH_STORE: &[&str] = &["BEGIN", FIRST, SECOND, THIRD, FOURTH, "COMMIT"];
+const FOURTH_STORE: &[&str] = &[
+    "BEGIN", FIRST, ROWS, SECOND, COUNTERS, THIRD, REQUEST, FOURTH, "COMMIT",
+];
 
 /// The migration of schema version 4, with a crash at each call of the log.
 #[test]
@@ -434,6 +438,20 @@ fn fourth_version_with_log_crashes(rt: HostRuntime) -> Result<(), Fail> {
 #[test]
 fn fourth_version_with_database_crashes(rt: HostRuntime) -> Result<(), Fail> {
     crash_store_opening(rt.alloc(), &rt, FOURTH_STORE, Part::Database)
+}
+
+const FIFTH_STORE: &[&str] = &["BEGIN", FIFTH, ROWS, COUNTERS, REQUEST, "COMMIT"];
+
+/// The migration of schema version 5, with a crash at each call of the log.
+#[test]
+fn fifth_version_with_log_crashes(rt: HostRuntime) -> Result<(), Fail> {
+    crash_store_opening(rt.alloc(), &rt, FIFTH_STORE, Part::Log)
+}
+
+/// The migration of schema version 5, with a crash at each call of the database file.
+#[test]
+fn fifth_version_with_database_crashes(rt: HostRuntime) -> Result<(), Fail> {
+    crash_store_opening(rt.alloc(), &rt, FIFTH_STORE, Part::Database)
 }
 
 /// Crashes an opening of a database of this schema version that lacks an index.

@@ -166,6 +166,28 @@ pub const QUESTIONS: &[Question] = &[
         "{\"error\":\"unknown_code\"}",
     ),
     (
+        "GET /desk/vouchers/3N55-WA4S-KH5V-JR49/redemptions",
+        DESK,
+        "{\"more\":false,\"redemptions\":[{\"at\":1000,\"device\":\"02:00:00:00:00:01\",\
+        \"extended\":false,\"open\":false,\"session\":1}]}",
+    ),
+    (
+        "GET /desk/vouchers/VX9P-KPN3-9M27-5E2M/redemptions",
+        DESK,
+        "{\"more\":false,\"redemptions\":[{\"at\":2000,\"device\":\"02:00:00:00:00:01\",\
+        \"extended\":true,\"open\":false,\"session\":1}]}",
+    ),
+    (
+        "GET /desk/vouchers/AXU5-SDWY-DBCH-DQCK/redemptions",
+        DESK,
+        "{\"more\":false,\"redemptions\":[]}",
+    ),
+    (
+        "GET /desk/vouchers/2222-2222-2222/redemptions",
+        DESK,
+        "{\"error\":\"unknown_code\"}",
+    ),
+    (
         "GET /desk/batches/b1/print",
         DESK,
         "code,plan,seconds,bytes,price,expires\n\

@@ -12,9 +12,8 @@ use std::test::Fail;
 const SOLD: &str =
     "INSERT INTO portal_plans VALUES ('hour', 300, 1, 3600, 0, 30, 1), ('gig', 500, 3, 0, 1073741824, 30, 0);
     INSERT INTO portal_batches VALUES ('b1', 'hour', 900, 2592900, 2), ('b2', 'gig', 900, 2592900, 1);
-    INSERT INTO portal_vouchers VALUES ('3N55-WA4S-KH53', 'b1', 0, 1000, NULL, NULL),
-    ('3N55-WA4S-KH5V-JR49', 'b1', 1, 900, NULL, NULL), ('2222-2222-223N', 'b2', 0, 1000, NULL, NULL);
-    INSERT INTO portal_counts VALUES ('3N55-WA4S-KH53', 0), ('3N55-WA4S-KH5V-JR49', 0), ('2222-2222-223N', 0);
+    INSERT INTO portal_vouchers VALUES ('3N55-WA4S-KH53', 'b1', 0, 1000, NULL, NULL, 0),
+    ('3N55-WA4S-KH5V-JR49', 'b1', 1, 900, NULL, NULL, 0), ('2222-2222-223N', 'b2', 0, 1000, NULL, NULL, 0);
     UPDATE portal_head SET last_moment = 1000";
 
 /// Times, each with an amount.

@@ -19,16 +19,21 @@ from schema_versions import take_back
 pytestmark = pytest.mark.container
 SCHEMA = DATABASE.with_name("schema")
 # What a running venue does not change: not the bytes that sessions used, nor the time of the last command.
-COLUMNS = {"portal_plans": "*", "portal_batches": "*", "portal_vouchers": "*", "portal_grants": "*", "portal_counts": "*",
-           "portal_requests": "*", "portal_sessions": "number, device, plan_id, opened, closed", "portal_totals": "number, ends",
+COLUMNS = {"portal_plans": "*", "portal_batches": "*", "portal_vouchers": "*", "portal_grants": "*",
+           "portal_requests": "*", "portal_sessions": "number, device, plan_id, opened, closed, ends",
            "portal_head": "id, grants, sessions"}
+# Those of a database of schema version 4, with its counters where a later version has them.
+COLUMNS_APART = COLUMNS | {"portal_vouchers": "*, (SELECT redeemed FROM portal_counts WHERE code = portal_vouchers.code)",
+                           "portal_sessions": """number, device, plan_id, opened, closed,
+                           (SELECT ends FROM portal_totals WHERE number = portal_sessions.number)"""}
 
 
 def rows(path: pathlib.Path) -> dict[str, list[tuple[object, ...]]]:
     """The rows of a database that nobody has open, table by table."""
     with contextlib.closing(sqlite3.connect(path)) as base:
+        apart = base.execute("SELECT layout FROM portal_head").fetchone()[0] < 6
         return {name: base.execute(f"SELECT {columns} FROM {name} ORDER BY rowid").fetchall()
-                for name, columns in COLUMNS.items()}
+                for name, columns in (COLUMNS_APART if apart else COLUMNS).items()}
 
 
 def version_in(path: pathlib.Path) -> int:
@@ -70,7 +75,7 @@ def before(levels: Levels) -> Iterator[Before]:
     sh(f"chown portal: {DATABASE}")
     SCHEMA.write_text("4\n")
     yield Before(*seen, kept)
-    SCHEMA.write_text("5\n")
+    SCHEMA.write_text("6\n")
     install(versions()[0], "--allow-downgrades")
     levels.forget()
 
@@ -94,7 +99,7 @@ def upgrade(before: Before) -> Done:
 
 
 def test_upgrade(upgrade: Done) -> None:
-    words, how_long = upgrade.stdout + upgrade.stderr, r"anew \(schema version 5, \d+ MB\): .* for up to \d+ seconds"
+    words, how_long = upgrade.stdout + upgrade.stderr, r"anew \(schema version 6, \d+ MB\): .* for up to \d+ seconds"
     assert upgrade.returncode == 0 and versions()[1] in installed() and passes(), (
         f"an upgrade over a database of version 4: the venue serves  [{output(upgrade, 300)}]")
     assert re.search(how_long, words), (
@@ -109,6 +114,6 @@ def test_all_is_the_same(upgrade: Done, before: Before) -> None:
     sh("systemctl start portal")
     keys = before.rows["portal_requests"]
     assert keys and kept["portal_requests"] == keys, "the same idempotency keys, with their answers"
-    assert kept == before.rows and version == 5, "every row of before, in version 5"
+    assert kept == before.rows and version == 6, "every row of before, in version 6"
     copy = max(COPIES.glob(f"before-{versions()[1]}-*.db"))
     assert version_in(copy) == 4 and rows(copy) == before.rows, "and the copy of before has them in version 4"

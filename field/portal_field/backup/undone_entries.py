@@ -19,7 +19,7 @@ from dataclasses import dataclass
 
 from portal_field.backup.copies import BadCopy, address_of, copy_both, fold, head_of, read_only, to_disk
 
-VERSIONS = (1, 2, 3, 4, 5)      # of the schema; the columns that are read here are the same in all of them
+VERSIONS = (1, 2, 3, 4, 5, 6)   # of the schema; the columns that are read here are the same in all of them
 FILE_NAME = "undone.csv"
 HEAD = ("what", "time", "code", "batch", "plan", "uses", "sum", "in the copy")
 # Redemptions are counted in their own table, as version 1 has no table of counts.

@@ -22,8 +22,8 @@ import flask
 
 from portal_field.counter import (
     clerks, confirmation, entrance, fields, figures, finding, form_token, office_pages, own_account,
-    payment_sums, payments, plan_pages, printing, reasons, repetition, roles, scans, sign_in_pages,
-    spreadsheet, takings, venue_pages)
+    payment_sums, payments, plan_pages, printing, reasons, redemptions, repetition, roles, scans,
+    sign_in_pages, spreadsheet, takings, venue_pages)
 from portal_field.counter.batch_pages import BatchPages
 from portal_field.counter.clerk import STATE, Acts, Counter, Notice
 from portal_field.counter.journal import Act, Entry
@@ -239,7 +239,7 @@ class Pages:
             self.keep(acts)
         return self.show("voucher.html", facts=self.counter.facts(found["voucher"]), number=new_number(),
                          look=form["look"], is_lost=found["voucher"]["batch"] in self.counter.marks(),
-                         **found)
+                         **found, **redemptions.listed(self.counter, found["voucher"]))
 
     def scan_again(self) -> Reply:
         """The code of a look-up is not kept, or no longer."""

@@ -64,6 +64,7 @@ SOURCES = {
                 ("portal_field/counter/setting_files.py", SAYS | {"clerk_words": None}),
                 ("portal_field/guests/prices.py", {"say_plural": (1, 2)}),
                 ("portal_field/counter/reasons.py", SAYS),
+                ("portal_field/counter/redemptions.py", SAYS),
                 ("portal_field/counter/confirmation.py", SAYS)),
 }
 HEAD = """msgid ""

@@ -39,6 +39,7 @@ class Routes(Route, Enum):
     CLOSE = "POST", "/desk/closes", "desk", True
     VOUCHERS = "GET", "/desk/vouchers", "desk"
     VOUCHER = "GET", "/desk/vouchers/{}", "desk"
+    REDEMPTIONS = "GET", "/desk/vouchers/{}/redemptions", "desk"
     LAST_SESSION = "GET", "/desk/sessions", "desk"
     SESSION = "GET", "/desk/sessions/{}", "desk"
     TAKINGS = "GET", "/desk/takings", "desk"

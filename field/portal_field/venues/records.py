@@ -31,25 +31,27 @@ QUERIES = {
     "batch": "SELECT id, plan_id, issued, expires, size FROM portal_batches WHERE issued >= :moment",
     "voucher": """
 SELECT voucher.code, batch.id, plan.id, plan.price, plan.uses, batch.expires, voucher.sold, voucher.refunded,
-    voucher.amount, counted.redeemed
-FROM portal_vouchers AS voucher JOIN portal_batches AS batch ON batch.id = voucher.batch_id
+    voucher.amount, voucher.redeemed
+FROM {vouchers} AS voucher JOIN portal_batches AS batch ON batch.id = voucher.batch_id
     JOIN portal_plans AS plan ON plan.id = batch.plan_id
-    JOIN portal_counts AS counted ON counted.code = voucher.code
 WHERE batch.issued >= :moment OR voucher.sold >= :moment OR voucher.refunded >= :moment
     OR voucher.code IN (SELECT code FROM portal_grants WHERE number > :grants)""",
     "session": """
-SELECT session.number, device, plan_id, opened, total.ends, used, closed
-FROM portal_sessions AS session JOIN portal_totals AS total ON total.number = session.number
-WHERE opened >= :moment OR closed >= :moment
-    OR (closed IS NULL AND (total.ends IS NULL OR total.ends >= :moment))
-    OR session.number IN (SELECT session FROM portal_grants WHERE number > :grants)"""}
+SELECT number, device, plan_id, opened, ends, used, closed
+FROM {sessions}
+WHERE opened >= :moment OR closed >= :moment OR (closed IS NULL AND (ends IS NULL OR ends >= :moment))
+    OR number IN (SELECT session FROM portal_grants WHERE number > :grants)"""}
 MOMENTS = {"issued", "expires", "sold", "refunded", "opened", "ends", "closed"}
 # What both sides count: an older copy that has gone on since is noticed by them
 SUMS = """
 SELECT (SELECT count(*) FROM portal_batches), count(*), count(sold), count(refunded), ifnull(sum(amount), 0),
-    (SELECT ifnull(sum(redeemed), 0) FROM portal_counts), (SELECT count(*) FROM portal_sessions),
+    ifnull(sum(redeemed), 0), (SELECT count(*) FROM portal_sessions),
     (SELECT count(closed) FROM portal_sessions)
-FROM portal_vouchers"""
+FROM {vouchers}"""
+# The tables with the counters: up to schema version 5 these are in tables of their own.
+TABLES = {"vouchers": "portal_vouchers", "sessions": "portal_sessions"}
+TABLES_APART = {"vouchers": "(SELECT * FROM portal_vouchers JOIN portal_counts USING (code))",
+                "sessions": "(SELECT * FROM portal_sessions JOIN portal_totals USING (number))"}
 
 
 def hidden(key: bytes, kind: str, text: str) -> bytes:
@@ -98,6 +100,12 @@ def reader(key: bytes, table: str) -> Callable[[Row], Row]:
     return read
 
 
+def tables_of(base: sqlite3.Connection) -> dict[str, str]:
+    """The tables with the counters, in the schema version of a database."""
+    row = base.execute("SELECT layout FROM portal_head").fetchone()
+    return TABLES_APART if row and row[0] < 6 else TABLES
+
+
 def read_head(base: sqlite3.Connection) -> Head:
     """How far a database goes."""
     row = base.execute("SELECT last_moment, grants, sessions FROM portal_head").fetchone()
@@ -112,9 +120,10 @@ def read_records(path: pathlib.Path, key: bytes, since: Head) -> Records:
             head = read_head(base)
             start = Head() if head.is_older_than(since) else since
             words = {"moment": start.moment, "grants": start.grants}
-            rows = {table: list(map(reader(key, table), base.execute(query, words)))
+            tables = tables_of(base)
+            rows = {table: list(map(reader(key, table), base.execute(query.format(**tables), words)))
                     for table, query in QUERIES.items()}
             first = base.execute("SELECT min(issued) FROM portal_batches").fetchone()[0]
-            return Records(head, first, base.execute(SUMS).fetchone(), rows)
+            return Records(head, first, base.execute(SUMS.format(**tables)).fetchone(), rows)
     except (sqlite3.Error, ValueError, OverflowError) as fault:
         raise BadCopy(f"its records cannot be read: {fault}") from fault

@@ -83,3 +83,8 @@ pub returns-in-Vouchers-clause-checks : goal.returns-in-Vouchers-clause-checks
 returns-in-Vouchers-clause-checks c =
     at_route c.args.settings.now c.args.seed c.args.asked.now c.args.route route.Vouchers
     c.check_vouchers.result c.in-Vouchers.is (c.check_vouchers.ensures.checks c.args.seed)
+
+pub returns-in-Redemptions-clause-checks : goal.returns-in-Redemptions-clause-checks
+returns-in-Redemptions-clause-checks c =
+    at_route c.args.settings.now c.args.seed c.args.asked.now c.args.route route.Redemptions
+    c.check_redemptions.result c.in-Redemptions.is (inr (c.check_redemptions.ensures.checks c.args.seed))

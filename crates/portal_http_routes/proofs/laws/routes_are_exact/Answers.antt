@@ -2,16 +2,18 @@ use Rattle.portal_http_routes.proofs.Common.{◌≡◌, inl, inr, ℕ, ◌<◌, 
 use Rattle.portal_http_routes.proofs.Common.{◌++◌, Option, Some, None, codes, refl, sym, ap, ◌∙◌, subst}
 use Rattle.portal_http_routes.proofs.Common.{arith, append-nil, All, option_map, RowsOf, RouteOf, Route}
 use Rattle.portal_http_routes.proofs.Common.{IsPlain, IsSegment, IsPathOf, batch_path, print_path}
-use Rattle.portal_http_routes.proofs.Common.{session_path, voucher_path}
+use Rattle.portal_http_routes.proofs.Common.{redemptions_path, session_path, voucher_path}
 use Rattle.matchit.proofs.OnLiterals.{matchit_on_literals}
 use Rattle.matchit.specs.Seek.{first}
 use Rattle.portal_http_routes.specs.declared.Route.TheVariants.{Captive, Redeem, Plans, Batches, Print, Sales}
 use Rattle.portal_http_routes.specs.declared.Route.TheVariants.{Refunds, Closes, Voucher, Takings, Reports}
 use Rattle.portal_http_routes.specs.declared.Route.TheVariants.{Sessions, Session, LastSession, OwnSession}
 use Rattle.portal_http_routes.specs.declared.Route.TheVariants.{SessionDetails, BatchList, Batch, Vouchers}
+use Rattle.portal_http_routes.specs.declared.Route.TheVariants.{Redemptions}
 use Rattle.portal_http_routes.specs.Targets.{has_no_empty_segment, is_path}
 use Rattle.portal_http_routes.specs.Table.{place_route, route_of, route_in, table}
-use Rattle.portal_http_routes.proofs.SeekLemmas.{seek-front, seek-print, seek-batch, seek-last}
+use Rattle.portal_http_routes.proofs.SeekLemmas.{seek-front, seek-print, seek-redemptions, seek-whole}
+use Rattle.portal_http_routes.proofs.SeekLemmas.{seek-last}
 use Rattle.portal_http_routes.proofs.SoundLemmas.{Found, Matches, seek-sound, literal-whole, literal-front}
 use Rattle.portal_http_routes.proofs.SoundLemmas.{path_parameter-then}
 use Rattle.portal_http_routes.proofs.TargetLemmas.{full_after}
@@ -41,7 +43,7 @@ full_batch b rest plain = ap (λ (word : List ℕ). has_no_empty_segment true (b
 of_batch : (b : ℕ) (rest : List ℕ) → IsPlain (b ∷ rest) → route_of (batch_path (b ∷ rest)) ≡ Some Batch
 unfolding route_of place_route matchit_on_literals
 of_batch b rest plain = ap (option_map (λ r. r.value))
-    (seek-front (codes "/desk/batches/") table (b ∷ rest) _ (seek-batch _ _ b rest plain))
+    (seek-front (codes "/desk/batches/") table (b ∷ rest) _ (seek-whole (codes "print") _ _ b rest plain))
 
 full_voucher : (b : ℕ) (rest : List ℕ) → IsPlain (b ∷ rest) → is_path (voucher_path (b ∷ rest)) ≡ true
 unfolding has_no_empty_segment
@@ -51,7 +53,21 @@ full_voucher b rest plain = ap (λ (word : List ℕ). has_no_empty_segment true 
 of_voucher : (b : ℕ) (rest : List ℕ) → IsPlain (b ∷ rest) → route_of (voucher_path (b ∷ rest)) ≡ Some Voucher
 unfolding route_of place_route matchit_on_literals
 of_voucher b rest plain = ap (option_map (λ r. r.value))
-    (seek-front (codes "/desk/vouchers/") table (b ∷ rest) _ (seek-last _ b rest plain))
+    (seek-front (codes "/desk/vouchers/") table (b ∷ rest) _ (seek-whole (codes "redemptions") _ _ b rest
+    plain))
+
+full_redemptions : (b : ℕ) (rest : List ℕ) → IsPlain (b ∷ rest)
+    → is_path (redemptions_path (b ∷ rest)) ≡ true
+unfolding has_no_empty_segment
+full_redemptions b rest plain = full_after b rest (codes "/redemptions") plain
+
+of_redemptions : (b : ℕ) (rest : List ℕ) → IsPlain (b ∷ rest)
+    → route_of (redemptions_path (b ∷ rest)) ≡ Some Redemptions
+unfolding route_of place_route matchit_on_literals
+of_redemptions b rest plain =
+    ap (option_map (λ r. r.value))
+    (seek-front (codes "/desk/vouchers/") table (b ∷ rest ++ codes "/redemptions") _
+    (seek-redemptions _ _ b rest plain))
 
 full_session : (b : ℕ) (rest : List ℕ) → IsPlain (b ∷ rest) → is_path (session_path (b ∷ rest)) ≡ true
 unfolding has_no_empty_segment
@@ -83,6 +99,12 @@ voucher_routed [] path seg e = absurd seg
 voucher_routed (b ∷ rest) path seg e = ap route_in e
     ∙ in_path (voucher_path (b ∷ rest)) Voucher (full_voucher b rest seg) (of_voucher b rest seg)
 
+redemptions_routed : (code path : List ℕ) → IsSegment code → path ≡ redemptions_path code
+    → route_in path ≡ Some Redemptions
+redemptions_routed [] path seg e = absurd seg
+redemptions_routed (b ∷ rest) path seg e = ap route_in e ∙ in_path (redemptions_path (b ∷ rest)) Redemptions
+    (full_redemptions b rest seg) (of_redemptions b rest seg)
+
 session_routed : (number path : List ℕ) → IsSegment number → path ≡ session_path number
     → route_in path ≡ Some Session
 session_routed [] path seg e = absurd seg
@@ -111,6 +133,7 @@ routed SessionDetails path h =
 routed BatchList path h = absurd h
 routed Batch path h = batch_routed h.0 path h.1 h.2
 routed Vouchers path h = path_of_literal path Vouchers (codes "/desk/vouchers") refl h
+routed Redemptions path h = redemptions_routed h.0 path h.1 h.2
 
 -- A path that has a route is one of its paths
 
@@ -157,6 +180,13 @@ voucher_said path m =
       left.1 ∙ ap (λ (l : List ℕ). codes "/desk/vouchers/" ++ l) (found.2 ∙ append-nil found.0),
     )
 
+redemptions_said : (path : List ℕ)
+    → Matches (codes "/desk/vouchers/" ++ 256 ∷ codes "/redemptions") path → IsPathOf Redemptions path
+redemptions_said path m =
+    let left = literal-front (codes "/desk/vouchers/") (256 ∷ codes "/redemptions") path refl m in
+    let found = path_parameter-then (codes "/redemptions") left.0 refl left.2 in
+    (found.0, found.1, left.1 ∙ ap (λ (l : List ℕ). codes "/desk/vouchers/" ++ l) found.2)
+
 session_said : (path : List ℕ) → Matches (codes "/desk/sessions/" ++ 256 ∷ []) path → IsPathOf Session path
 session_said path m =
     let left = literal-front (codes "/desk/sessions/") (256 ∷ []) path refl m in
@@ -191,20 +221,23 @@ all_say = (
                     (
                       λ path m. literal-whole (codes "/desk/takings") path refl m,
                       (
-                        λ path m. voucher_said path m,
+                        λ path m. redemptions_said path m,
                         (
-                          λ path m. literal-whole (codes "/desk/vouchers") path refl m,
+                          λ path m. voucher_said path m,
                           (
-                            λ path m. literal-whole (codes "/gateway/reports") path refl m,
+                            λ path m. literal-whole (codes "/desk/vouchers") path refl m,
                             (
-                              λ path m. literal-whole (codes "/gateway/sessions/details") path refl m,
+                              λ path m. literal-whole (codes "/gateway/reports") path refl m,
                               (
-                                λ path m. literal-whole (codes "/gateway/sessions") path refl m,
+                                λ path m. literal-whole (codes "/gateway/sessions/details") path refl m,
                                 (
-                                  λ path m. literal-whole (codes "/portal/redeem") path refl m,
+                                  λ path m. literal-whole (codes "/gateway/sessions") path refl m,
                                   (
-                                    λ path m. literal-whole (codes "/portal/session") path refl m,
-                                    tt,
+                                    λ path m. literal-whole (codes "/portal/redeem") path refl m,
+                                    (
+                                      λ path m. literal-whole (codes "/portal/session") path refl m,
+                                      tt,
+                                    ),
                                   ),
                                 ),
                               ),

@@ -1,6 +1,8 @@
-use Rattle.portal_http_routes.proofs.Common.{◌≡◌, Result, Ok, Err, OnOk, RowsOf, RouteOf, InsertsRead, Route}
+use Rattle.portal_http_routes.proofs.Common.{◌≡◌, Result, Ok, Err, OnOk, RowsOf, RouteOf, InsertsRead}
+use Rattle.portal_http_routes.proofs.Common.{Route}
 use Rattle.matchit.specs.Route.{Scan, parse_route}
 use Rattle.matchit.specs.declared.error.InsertError.{InsertError}
+use Rattle.portal_http_routes.specs.Route.{pattern_of}
 use Rattle.portal_http_routes.specs.Table.{place_read, place_route}
 use Rattle.portal_http_routes.proofs.router.add_route.Goals as goal
 
@@ -14,4 +16,6 @@ placed_ok (Err e) value old new (Err f) h = tt
 
 pub returns : goal.returns
 unfolding place_route
-returns c = placed_ok (parse_route c.args.text.now) c.args.route _ _ c.insert.result c.insert.ensures
+returns c =
+    placed_ok (parse_route (pattern_of c.args.route)) c.args.route _ _ c.insert.result
+    (rw (c.path_pattern.ensures) at c.insert.ensures)

@@ -3,6 +3,7 @@ use Rattle.portal_http_routes.proofs.router.whole_router.Goals as goal
 pub returns : goal.returns
 returns c =
     rw (
+      c.in_ok-add_route-19.ensures,
       c.in_ok-add_route-18.ensures,
       c.in_ok-add_route-17.ensures,
       c.in_ok-add_route-16.ensures,

@@ -6,4 +6,5 @@ returns c = record {
   states = (refl, refl, refl, refl, refl, refl, refl);
   beginnings = (refl, refl, refl, refl, refl, refl);
   order = (refl, refl, refl, refl, refl, refl, refl, refl, refl);
+  redemptions = (refl, refl, refl, refl, refl, refl, refl);
 }

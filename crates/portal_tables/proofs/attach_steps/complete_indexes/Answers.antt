@@ -3,6 +3,7 @@ use Rattle.portal_tables.proofs.Common.{Schema, survives_weaker, TablePlaces, Ta
 use Rattle.portal_tables.proofs.Common.{◌≡◌, this_schema_version, others_none, HasNoActionOnOurs, refl}
 use Rattle.portal_tables.proofs.Common.{[], is_entangled, is_indexed}
 use Rattle.portal_tables_sql.specs.Indexes.{our_indexes}
+use Rattle.portal_tables_sql.specs.Tables.{Together}
 use Rattle.portal_tables.proofs.AttachLemmas.{whole_spares}
 use Rattle.portal_tables.proofs.attach_steps.complete_indexes.Goals as goal
 
@@ -10,8 +11,8 @@ pub returns-then-is_indexed-clause-done : goal.returns-then-is_indexed-clause-do
 returns-then-is_indexed-clause-done g c clean live settled =
     let old = state g.S.Store c.args.conn.now in
     let law = subst (λ (s : Schema). (places : TablePlaces)
-    → TablesExist false this_schema_version [] s places
-    → TablesExist false this_schema_version our_indexes s places)
+    → TablesExist Together this_schema_version [] s places
+    → TablesExist Together this_schema_version our_indexes s places)
     c.schema-2.ensures.value (c.is_indexed.ensures.index c.if-is_indexed.true) in
     record {
       holds = inl (λ t h. record {

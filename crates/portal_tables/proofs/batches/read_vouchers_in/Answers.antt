@@ -16,7 +16,7 @@ returns g c =
     shown_as g.S.Store (λ h legal is.
     vouchers_are_in h legal c.args.batch.now rows vouchers
     (subst (All (λ (r : VoucherValue). IsCode (code_of_row r))) c.deref.ensures.value
-    c.in_ok-vouchers.ensures.codes) is.0.1
+    c.in_ok-vouchers.ensures.codes) is.0.1.0 is.0.1.1
     (subst (λ (rs : List VoucherValue). AreVouchersOf h rs
     → vouchers ≡ filter_map (voucher_of h) (map code_of_row rs)) c.deref.ensures.value is.1))
     (shown_then g.S.Store (of_rows g.S.Store c.in_ok-rows.ensures) c.in_ok-vouchers.ensures.reads)

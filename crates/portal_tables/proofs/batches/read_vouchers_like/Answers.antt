@@ -30,7 +30,8 @@ returns g c =
     (vouchers_are_like h legal text c.requires.some rows
     (subst (All (λ (r : VoucherValue). IsCode (code_of_row r))) shown c.in_ok-vouchers.ensures.codes)
     (subst (λ (high : List ℕ). ListsFirst 51 (λ (v : VoucherRow). is_between text high v.code) by_code
-    (map voucher_kept (vouchers_of h)) (map voucher_read rows)) above is.0.1)
+    (map voucher_kept (vouchers_of h)) (map voucher_read rows)) above is.0.1.0)
+    is.0.1.1
     c.in_ok-vouchers.vouchers.items
     (subst (λ (rs : List VoucherValue). AreVouchersOf h rs
     → c.in_ok-vouchers.vouchers.items ≡ filter_map (voucher_of h) (map code_of_row rs)) shown is.1)))

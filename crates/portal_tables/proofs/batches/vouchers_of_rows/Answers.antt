@@ -7,7 +7,7 @@ use Rattle.std.specs.Option.{option_to_list}
 use Rattle.std.proofs.lemmas.List.Elements.{All-more}
 use Rattle.portal_tables_rows.specs.declared.rows.VoucherValue.{VoucherValue}
 use Rattle.portal_tables.proofs.BatchLemmas.{code_of_row, vouchers_more}
-use Rattle.portal_tables.proofs.ShownLemmas.{made_fails, next_fails, shown_after, open_after, shown_then}
+use Rattle.portal_tables.proofs.ShownLemmas.{made_fails, next_fails, shown_after, open_after}
 use Rattle.portal_tables.proofs.batches.vouchers_of_rows.Goals as goal
 
 pub returns-in_err-terms-clause-reads : goal.returns-in_err-terms-clause-reads
@@ -15,17 +15,10 @@ returns-in_err-terms-clause-reads g c =
     next_fails g.S.Store _ c.from_residual.result c.from_residual.ensures.1 c.loop-row.invariant.looks
     c.in_err-terms.ensures.reads.looks
 
-pub returns-in_err-voucher-clause-reads : goal.returns-in_err-voucher-clause-reads
-returns-in_err-voucher-clause-reads g c =
-    next_fails g.S.Store _ c.from_residual-in_err-voucher.result c.from_residual-in_err-voucher.ensures.1
-    (reads_then HasTables _ _ _ c.loop-row.invariant.looks c.in_ok-terms.ensures.reads.looks)
-    c.in_err-voucher.ensures.reads.looks
-
 pub returns-in_err-push-clause-reads : goal.returns-in_err-push-clause-reads
 returns-in_err-push-clause-reads g c =
     made_fails g.S.Store _ c.from_residual-in_err-push.result c.from_residual-in_err-push.ensures.1
-    (reads_then HasTables _ _ _ c.loop-row.invariant.looks (reads_then HasTables _ _ _
-    c.in_ok-terms.ensures.reads.looks c.in_ok-voucher.ensures.reads.looks))
+    (reads_then HasTables _ _ _ c.loop-row.invariant.looks c.in_ok-terms.ensures.reads.looks)
 
 pub loop-row-preserved : goal.loop-row-preserved
 loop-row-preserved g c =
@@ -36,19 +29,20 @@ loop-row-preserved g c =
     let i = c.loop-row.row-index in
     let before = c.loop-row.invariant in
     let within : i < length rows = c.loop-row-test.true in
-    let one = shown_then g.S.Store c.in_ok-terms.ensures.reads c.in_ok-voucher.ensures.reads in
+    let one = c.in_ok-terms.ensures.reads in
     record {
       codes = All-more (λ (r : VoucherValue). IsCode (code_of_row r)) rows i row within before.codes
-          (subst (λ (r : VoucherValue). IsCode (code_of_row r)) c.row-item.is c.in_ok-voucher.ensures.code);
+          (subst (λ (r : VoucherValue). IsCode (code_of_row r)) c.row-item.is c.voucher_of_row.ensures.code);
       found = λ clean live h shown are.
           let clean1 : HasCleanDisk b = omega (arith, one.looks.crash.clean) in
           let shown1 = shown_after h a b before.looks clean1 live shown in
           let live1 = open_after h a b before.looks clean1 live shown in
           let done = before.found clean1 live h shown are in
           let is = one.found clean live1 h shown1 in
-          let terms = is.0 done.1 in
-          let voucher : Some c.in_ok-voucher.voucher ≡ voucher_of h row.code =
-          is.1 (are row (has_at rows i row within c.row-item.is)) terms in (
+          let terms = is done.1 in
+          let voucher : Some c.voucher_of_row.result ≡ voucher_of h row.code =
+          c.voucher_of_row.ensures.voucher h shown.0 (are row (has_at rows i row within c.row-item.is)) terms
+          in (
             c.in_ok-push.ensures.items
                 ∙ ap₂ (λ xs (o : Option Voucher). xs ++ option_to_list o) done.0 voucher
                 ∙ sym (vouchers_more h rows i row within c.row-item.is),

@@ -10,7 +10,6 @@ returns-in_err-sessions g c = next_fails g.S.Store _ c.from_residual-in_err-sess
 pub returns : goal.returns
 returns g c =
     shown_as g.S.Store (λ h legal is.
-    let numbers = is.0.1 in
-    open_listed h legal c.args.t numbers.0 c.in_ok-numbers.numbers.items c.in_ok-sessions.sessions.items
-    numbers.1 numbers.2 (is.1 ∙ ap (filter_map (open_session_of h c.args.t)) c.deref.ensures.value))
+    open_listed h legal c.args.t c.in_ok-numbers.numbers.items c.in_ok-sessions.sessions.items
+    is.0.1 (is.1 ∙ ap (filter_map (open_session_of h c.args.t)) c.deref.ensures.value))
     (shown_then g.S.Store (of_rows g.S.Store c.in_ok-numbers.ensures) c.in_ok-sessions.ensures)

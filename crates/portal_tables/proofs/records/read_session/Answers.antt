@@ -1,6 +1,7 @@
 use Rattle.portal_tables.proofs.Common.{Option, option_map, map, ap, sym, subst, ◌∙◌, arith, ◌≤◌, ◌^◌}
 use Rattle.portal_tables.proofs.Common.{session_of, SessionRow, sessions_of, reads_none, SessionValue}
-use Rattle.portal_tables.proofs.Common.{HasTables, session_read, session_kept}
+use Rattle.portal_tables.proofs.Common.{HasTables, Has, IfSome, session_read, session_kept, session_total}
+use Rattle.portal_tables.proofs.Common.{totals_of}
 use Rattle.portal_tables_sql.specs.Finds.{Finds}
 use Rattle.portal_tables.proofs.ShownLemmas.{next_fails, of_rows, shown_as, shown_then}
 use Rattle.portal_tables.proofs.Joining.{session_missing, session_past, row_of_number}
@@ -23,8 +24,9 @@ pub returns-in_ok-session_of_row-in-Some : goal.returns-in_ok-session_of_row-in-
 returns-in_ok-session_of_row-in-Some g c =
     shown_as g.S.Store (λ h legal is.
     let row = subst (λ (o : Option SessionValue). Finds (λ (x : SessionRow). x.number) c.args.number
-    (map session_kept (sessions_of h)) (option_map session_read o)) c.in-Some.is is.0.1 in
-    let it = row_of_number h legal c.args.number c.in-Some.row row in
+    (map session_kept (sessions_of h)) (option_map session_read o)
+    × IfSome o (λ r. Has (totals_of h) (session_total r))) c.in-Some.is is.0.1 in
+    let it = row_of_number h legal c.args.number c.in-Some.row row.0 row.1 in
     is.1 it.0 ∙ ap (session_of h) it.1) (shown_then g.S.Store (of_rows g.S.Store c.in_ok-row.ensures.reads)
     c.in_ok-session_of_row-in-Some.ensures)
 
@@ -32,5 +34,5 @@ pub returns-in-None : goal.returns-in-None
 returns-in-None g c =
     shown_as g.S.Store (λ h legal is.
     let gone = subst (λ (o : Option SessionValue). Finds (λ (x : SessionRow). x.number) c.args.number
-    (map session_kept (sessions_of h)) (option_map session_read o)) c.in-None.is is.1 in
+    (map session_kept (sessions_of h)) (option_map session_read o)) c.in-None.is is.1.0 in
     sym (session_missing h legal c.args.number gone)) (of_rows g.S.Store c.in_ok-row.ensures.reads)

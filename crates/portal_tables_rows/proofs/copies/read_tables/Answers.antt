@@ -5,7 +5,7 @@ use Rattle.portal_tables_rows.proofs.Common.{err_from_is_err_and}
 use Rattle.portal_tables_rows.proofs.Common.{reads_fails, get_or, Has, Database, HoldsTables}
 use Rattle.sqlite_rules.proofs.ListLemmas.{has_at}
 use Rattle.portal_tables_rows.proofs.CopySteps.{same_got}
-use Rattle.portal_tables_sql.specs.declared.our_tables.OurTable.TheVariants as our
+use Rattle.portal_tables_sql.specs.declared.copied_tables.CopiedTable.TheVariants as copied
 use Rattle.portal_tables_rows.proofs.Compose.{made_more}
 use Rattle.portal_tables_rows.specs.Copying.{cells_of, table_read}
 use Rattle.portal_tables_rows.proofs.copies.read_tables.Goals as goal
@@ -13,7 +13,7 @@ use Rattle.portal_tables_rows.proofs.copies.read_tables.Goals as goal
 pub loop-table-init : goal.loop-table-init
 loop-table-init g c = record {
   looks = c.in_ok-heads.ensures.looks;
-  read = λ clean live keyed v indexes t h on. ap (map table_read) c.new-read.ensures.items;
+  read = λ clean live layout v indexes t h on. ap (map table_read) c.new-read.ensures.items;
 }
 
 pub loop-table-preserved : goal.loop-table-preserved
@@ -24,24 +24,24 @@ loop-table-preserved g c =
     let before = c.loop-table.invariant.looks in
     record {
       looks = reads_then Anything a b d before c.in_ok-rows.ensures.looks;
-      read = λ clean live keyed v indexes t h on.
+      read = λ clean live layout v indexes t h on.
           let late : HasCleanDisk b = omega (arith, clean, c.in_ok-rows.ensures.looks.crash.clean) in
           let same = same_now Anything a b before late live tt in
-          let x = get_or c.args.tables.now c.loop-table.table-index our.Head in
-          let is = same_got c.args.tables.now c.loop-table.table-index our.Head x c.loop-table-test.true in
+          let x = get_or c.args.tables.now c.loop-table.table-index copied.Head in
+          let is = same_got c.args.tables.now c.loop-table.table-index copied.Head x c.loop-table-test.true in
           let has : Has c.args.tables.now x =
           has_at c.args.tables.now c.loop-table.table-index x c.loop-table-test.true is in
-          let rows = c.in_ok-rows.ensures.rows clean keyed v indexes t
-          (subst (λ (db : Database). HoldsTables keyed v indexes db t) (sym same) h) (on x has) in
+          let rows = c.in_ok-rows.ensures.rows clean layout v indexes t
+          (subst (λ (db : Database). HoldsTables layout v indexes db t) (sym same) h) (on x has) in
           made_more table_read (λ x. (x, cells_of x t)) c.loop-table.read.items c.push.new.self.items _
           c.args.tables.now c.loop-table.table-index x
-          (c.loop-table.invariant.read late live keyed v indexes t h on)
+          (c.loop-table.invariant.read late live layout v indexes t h on)
           c.in_ok-push.ensures.items c.loop-table-test.true is (ap (λ rows. (x, rows)) rows);
     }
 
 pub returns-clause-read : goal.returns-clause-read
-returns-clause-read g c = λ clean live keyed v indexes t h on.
-    c.loop-table.invariant.read clean live keyed v indexes t h on
+returns-clause-read g c = λ clean live layout v indexes t h on.
+    c.loop-table.invariant.read clean live layout v indexes t h on
     ∙ ap (map (λ x. (x, cells_of x t))) (take_all c.loop-table.table-index c.args.tables.now
     c.loop-table-test.false)
 

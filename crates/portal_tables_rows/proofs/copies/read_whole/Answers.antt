@@ -3,17 +3,19 @@ use Rattle.portal_tables_sql.proofs.AskLemmas.{asks_looks}
 use Rattle.portal_tables_sql.specs.Asks.{Anything, Asks}
 use Rattle.portal_tables_rows.proofs.CopySteps.{ok_weaker}
 use Rattle.portal_tables_rows.proofs.WholeAsks.{whole_asked}
-use Rattle.portal_tables_rows.proofs.WholeReading.{whole_rows}
+use Rattle.portal_tables_rows.proofs.WholeReading.{laid_out, whole_rows}
+use Rattle.portal_tables_sql.specs.Copies.{table_copied}
 use Rattle.portal_tables_rows.proofs.copies.read_whole.Goals as goal
 
 pub returns-clause-rows : goal.returns-clause-rows
-returns-clause-rows g c clean keyed v indexes t h on = ok_weaker c.query_all.result
-    (λ rows shown. whole_rows c.args.table keyed (state g.S.Store c.args.conn.now)
+returns-clause-rows g c clean layout v indexes t h on = ok_weaker c.query_all.result
+    (λ rows shown. whole_rows c.args.table layout (state g.S.Store c.args.conn.now)
     (state g.S.Store c.query_all.new.self) rows.items
     (subst (λ sql. Shown sql [] (state g.S.Store c.args.conn.now) (state g.S.Store c.query_all.new.self)
     rows.items)
-    c.select_statement.ensures shown) (h.places c.args.table) (h.tables_exist.tables c.args.table on).exists t
-    (h.store c.args.table on)) (c.query_all.ensures.ok clean)
+    c.select_statement.ensures shown) (h.places (table_copied c.args.table))
+    (h.tables_exist.tables (table_copied c.args.table) (on, laid_out c.args.table layout)).exists t
+    (h.store (table_copied c.args.table) (on, laid_out c.args.table layout))) (c.query_all.ensures.ok clean)
 
 pub returns-clause-looks : goal.returns-clause-looks
 returns-clause-looks g c =

@@ -1,5 +1,5 @@
 use Rattle.portal_tables_rows.proofs.Common.{arith, ◌∙◌, rules, state, HasCleanDisk, no_rows}
-use Rattle.portal_tables_sql.specs.Tables.{our_tables}
+use Rattle.portal_tables_sql.specs.Tables.{current_tables}
 use Rattle.portal_tables_rows.proofs.OthersLemmas.{others_then}
 use Rattle.portal_tables_rows.proofs.MakeLemmas.{others_still}
 use Rattle.portal_tables_rows.proofs.NewTables.{made_holds}
@@ -19,7 +19,7 @@ returns g c = record {
         holds = λ free. two.holds no_rows (made_holds a.now b.now free (one.made free.numbered).0);
         others = λ free.
             let made = (one.made free.numbered).0 in
-            others_then a.now b.now d.now (others_still our_tables a.now b.now made)
+            others_then a.now b.now d.now (others_still current_tables a.now b.now made)
             (two.others no_rows (made_holds a.now b.now free made));
         committed = two.committed ∙ one.committed;
         mode = two.mode;

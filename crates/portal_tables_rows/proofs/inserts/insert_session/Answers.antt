@@ -1,4 +1,5 @@
-use Rattle.portal_tables_rows.proofs.Common.{◌<◌, ◌^◌, w64, arith, refl, to_z_pos, opened_row}
+use Rattle.portal_tables_rows.proofs.Common.{◌<◌, ◌^◌, w64, refl, arith, to_z_pos, bound_number, bound_signed}
+use Rattle.portal_tables_rows.proofs.Common.{opened_whole}
 use Rattle.portal_tables_rows.proofs.InsertSteps.{add_session}
 use Rattle.portal_tables_rows.proofs.WritesLemmas.{writes_run}
 use Rattle.portal_tables_rows.proofs.inserts.insert_session.Goals as goal
@@ -6,16 +7,22 @@ use Rattle.portal_tables_rows.proofs.inserts.insert_session.Goals as goal
 pub returns : goal.returns
 returns g c =
     let opened : c.get.result < 2 ^ 63 = omega arith in
-    writes_run g.S.Store (add_session (opened_row c.args.session.now c.args.plan.now) (refl, refl))
+    writes_run g.S.Store
+    (add_session (opened_whole c.args.session.now c.args.plan.now c.args.remaining) (refl, refl))
     (rw (
       c.params-to_sql.ensures,
       c.params-to_sql-2.ensures,
       c.params-to_sql-3.ensures,
       c.params-to_sql-4.ensures,
+      c.params-to_sql-5.ensures,
+      c.params-to_sql-6.ensures,
       c.in_ok-integer.ensures.value,
       to_z_pos w64 c.args.session.now.number (c.in_ok-integer.ensures.fits.0 refl),
       c.text-text.ensures.value,
       c.text.ensures.value,
       to_z_pos w64 c.get.result opened,
       c.get.ensures.value,
+      c.seconds_or_null.ensures,
+      bound_number c.args.session.now.ends,
+      bound_signed c.args.remaining,
     ) at c.write.ensures)

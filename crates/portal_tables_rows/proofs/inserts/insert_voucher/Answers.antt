@@ -1,4 +1,4 @@
-use Rattle.portal_tables_rows.proofs.Common.{w64, refl, to_z_pos, text_of, new_voucher}
+use Rattle.portal_tables_rows.proofs.Common.{w64, refl, to_z_pos, text_of, new_whole_voucher}
 use Rattle.portal_tables_rows.proofs.InsertSteps.{add_voucher}
 use Rattle.portal_tables_rows.proofs.WritesLemmas.{writes_run}
 use Rattle.portal_tables_rows.proofs.inserts.insert_voucher.Goals as goal
@@ -6,7 +6,8 @@ use Rattle.portal_tables_rows.proofs.inserts.insert_voucher.Goals as goal
 pub returns : goal.returns
 returns g c =
     writes_run g.S.Store
-    (add_voucher (new_voucher c.args.batch.now c.args.place (text_of c.args.code.now)) (refl, refl, refl))
+    (add_voucher (new_whole_voucher c.args.batch.now c.args.place (text_of c.args.code.now))
+    (refl, refl, refl, refl))
     (rw (
       c.params-to_sql.ensures,
       c.params-to_sql-2.ensures,

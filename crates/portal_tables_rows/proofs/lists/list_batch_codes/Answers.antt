@@ -9,7 +9,7 @@ returns-clause-reads g c =
     row_made g.S.Store _ c.in_ok-vouchers.ensures
     (λ t lists. record {
       listed = map voucher_read vouchers;
-      lists = lists;
+      lists = lists.0;
       shows = c.in_ok-codes_of_vouchers.ensures.read ∙ ap (map (λ (v : VoucherValue). (voucher_read v).code))
           c.deref.ensures.value ∙ sym (map-map (λ (v : VoucherRow). v.code) voucher_read vouchers);
     })

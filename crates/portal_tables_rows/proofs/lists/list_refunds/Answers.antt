@@ -24,7 +24,7 @@ returns g c =
     ) at c.in_ok-vouchers.ensures))
     (λ t lists. record {
       listed = map voucher_read vouchers;
-      lists = lists;
+      lists = lists.0;
       shows = c.in_ok-refunds_of_vouchers.ensures.read
           ∙ ap (map (λ (v : VoucherValue). refund_columns (voucher_read v))) c.deref.ensures.value
           ∙ sym (map-map refund_columns voucher_read vouchers);
@@ -68,7 +68,7 @@ returns-in_err-refunds_of_vouchers g c =
     (λ t lists. rw told.1 tt)
     (λ t lists own.
     let kept = listed_own IsOwnRefund (λ (v : VoucherRow). is_within c.args.from c.args.to v.refunded)
-    by_refund t.vouchers (map voucher_read vouchers) lists (λ v has on. (
+    by_refund t.vouchers (map voucher_read vouchers) lists.0 (λ v has on. (
       own v has,
       within_some c.args.from c.args.to v.refunded on,
     )) in

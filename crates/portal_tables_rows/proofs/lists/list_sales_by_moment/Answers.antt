@@ -24,7 +24,7 @@ returns g c =
     ) at c.in_ok-vouchers.ensures))
     (λ t lists. record {
       listed = map voucher_read vouchers;
-      lists = lists;
+      lists = lists.0;
       shows = c.in_ok-sales_of_vouchers.ensures.read
           ∙ ap (map (λ (v : VoucherValue). sale_columns (voucher_read v))) c.deref.ensures.value
           ∙ sym (map-map sale_columns voucher_read vouchers);
@@ -69,7 +69,7 @@ returns-in_err-sales_of_vouchers g c =
     (λ t lists own.
     let kept = listed_own (λ (v : VoucherRow). IsSome v.sold)
     (λ (v : VoucherRow). is_within c.args.from c.args.to v.sold) by_sale t.vouchers
-    (map voucher_read vouchers) lists (λ v has on. within_some c.args.from c.args.to v.sold on) in
+    (map voucher_read vouchers) lists.0 (λ v has on. within_some c.args.from c.args.to v.sold on) in
     rw (
       told.1,
       told.2,

@@ -8,7 +8,7 @@ pub returns : goal.returns
 returns g c =
     let n = c.args.from in
     let read = c.args.read.now in
-    let f = after_migration c.args.from c.args.kept.now c.args.totals.now in
+    let f = after_migration c.args.from c.args.vouchers.now c.args.sessions.now in
     let last = c.migrate_inside.new.tx.conn.now in
     let end = c.commit.new.self.0 in
     let same : end ≡ c.conn-2-1.given.0 = search rules in
@@ -34,7 +34,7 @@ pub returns-in_err-commit : goal.returns-in_err-commit
 returns-in_err-commit g c =
     let n = c.args.from in
     let read = c.args.read.now in
-    let f = after_migration c.args.from c.args.kept.now c.args.totals.now in
+    let f = after_migration c.args.from c.args.vouchers.now c.args.sessions.now in
     let last = c.migrate_inside.new.tx.conn.now in
     let end = c.commit.new.self.0 in
     let same : end ≡ c.conn-2-1.given.0 = search rules in

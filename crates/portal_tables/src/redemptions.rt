@@ -1,0 +1,150 @@
+//! Reads the last redemptions of a voucher.
+
+ghost use Rattle.std.specs.Prelude.{◌≡◌, ◌<◌, ◌≤◌, ◌^◌, Some, map};
+ghost use Rattle.std.specs.List.{filter_map};
+ghost use Rattle.portal_model.specs.History.{grants_of};
+ghost use Rattle.portal_model.specs.Redemptions.{
+  first_redemptions,
+  is_in_session,
+  redemptions_among,
+};
+ghost use Rattle.portal_tables.specs.HoldsLedger.{ReadsHistory};
+ghost use Rattle.portal_tables.specs.RedemptionLists.{
+  AreGrantsOf,
+  IsGrantOf,
+  IsOpenedAt,
+  grants_below,
+  redemption_numbered,
+};
+
+use crate::records::{LIMIT, read_session};
+use portal_codes::Code;
+use portal_model::moment::Moment;
+use portal_model::record::is_open;
+use portal_model::redemptions::Redemption;
+use portal_tables_rows::grants::GrantValue;
+use portal_tables_rows::pages::{list_last_grants, read_grant_row};
+use portal_tables_rows::rows::RowError;
+use sqlite::{Alter, Connection};
+use std::alloc::Global;
+
+/// Reads the redemption with this number. Fails with `ForeignRow` if it is missing.
+fn read_grant<S: Alter>(conn: &mut Connection<S>, number: u64) -> Result<GrantValue, RowError>
+    requires { number < 2 ^ 63 }
+    ensures { ReadsHistory S.Store conn.old conn.new result
+        (λ h grant. IsGrantOf h grant × (grant.number ≡ number)) }
+{
+    match read_grant_row(conn, number)? {
+        Some(grant) => Ok(grant),
+        None => Err(RowError::ForeignRow),
+    }
+}
+
+/// Reads whether a session, opened at this time, has a redemption with a number below `number`. It reads the
+/// redemptions before that number, and stops at the first one before that time.
+fn is_in_older<S: Alter>(
+    conn: &mut Connection<S>,
+    session: u64,
+    opened: Moment,
+    number: u64,
+) -> Result<bool, RowError>
+    requires { number ≤ 2 ^ 63 }
+    ensures { ReadsHistory S.Store conn.old conn.new result (λ h found. IsOpenedAt h session opened
+        → found ≡ is_in_session session (grants_below (grants_of h) number)) }
+{
+    let mut next = number;
+    while next > 1 {
+        next -= 1;
+        let older = read_grant(conn, next)?;
+        if older.session == session {
+            return Ok(true);
+        }
+        if older.moment < opened {
+            return Ok(false);
+        }
+    }
+    Ok(false)
+}
+
+/// Reads whether a redemption extended its session, which was opened at this time: whether an older one is in
+/// the session. Of a redemption after that time the one that opened the session is older.
+fn has_extended<S: Alter>(
+    conn: &mut Connection<S>,
+    grant: &GrantValue,
+    opened: Moment,
+) -> Result<bool, RowError>
+    ensures { ReadsHistory S.Store conn.old conn.new result (λ h extended. IsGrantOf h grant.now
+        → IsOpenedAt h grant.now.session opened
+        → extended ≡ is_in_session grant.now.session (grants_below (grants_of h) grant.now.number)) }
+{
+    if grant.number >= LIMIT {
+        return Err(RowError::ForeignRow);
+    }
+    if grant.moment > opened {
+        return Ok(true);
+    }
+    is_in_older(conn, grant.session, opened, grant.number)
+}
+
+/// Makes a redemption, as it is at the time `t`, from its row. Fails with `ForeignRow` if its session is
+/// missing.
+fn redemption_of_row<S: Alter>(
+    conn: &mut Connection<S>,
+    t: Moment,
+    grant: &GrantValue,
+) -> Result<Redemption, RowError>
+    ensures { ReadsHistory S.Store conn.old conn.new result (λ h redemption. IsGrantOf h grant.now
+        → Some redemption ≡ redemption_numbered h t grant.now.number) }
+{
+    let Some(session) = read_session(conn, grant.session)? else {
+        return Err(RowError::ForeignRow);
+    };
+    let extended = has_extended(conn, grant, session.opened)?;
+    Ok(Redemption {
+        at: grant.moment,
+        device: session.device,
+        extended,
+        is_open: is_open(&session, t),
+        session: grant.session,
+    })
+}
+
+/// Makes the redemptions of rows, in this order, as they are at the time `t`. Fails with `ForeignRow` if a
+/// row is missing.
+fn redemptions_of_rows<S: Alter>(
+    alloc: Global,
+    conn: &mut Connection<S>,
+    t: Moment,
+    rows: &[GrantValue],
+) -> Result<Vec<Redemption>, RowError>
+    ensures { ReadsHistory S.Store conn.old conn.new result (λ h redemptions. AreGrantsOf h rows.now
+        → redemptions.items ≡ filter_map (redemption_numbered h t) (map (λ row. row.number) rows.now)) }
+{
+    let mut redemptions = Vec::new(alloc);
+    for row in rows {
+        let redemption = redemption_of_row(conn, t, row)?;
+        redemptions.push(redemption)?;
+    }
+    Ok(redemptions)
+}
+
+/// The most redemptions that are listed at once.
+const MOST_LISTED: usize = 100;
+
+/// Reads the last redemptions with this code, the newest first, as they are at the time `t`, and whether
+/// there are more.
+pub(crate) fn read_last_redemptions<S: Alter>(
+    alloc: Global,
+    conn: &mut Connection<S>,
+    t: Moment,
+    code: &Code,
+) -> Result<(Vec<Redemption>, bool), RowError>
+    ensures { ReadsHistory S.Store conn.old conn.new result (λ h found. (found.0.items, found.1)
+        ≡ first_redemptions (redemptions_among h t code.now (grants_of h))) }
+{
+    let listed = list_last_grants(alloc, conn, code)?;
+    let rows = listed.as_slice();
+    let shown = rows.len().min(MOST_LISTED);
+    let redemptions = redemptions_of_rows(alloc, conn, t, &rows[..shown])?;
+    Ok((redemptions, rows.len() > MOST_LISTED))
+}

@@ -1,5 +1,0 @@
-use Rattle.portal_tables_rows.proofs.WritesLemmas.{writes_then}
-use Rattle.portal_tables_rows.proofs.migrations.insert_counters.Goals as goal
-
-pub returns : goal.returns
-returns g c = writes_then g.S.Store c.in_ok-insert_all_counts.ensures c.in_ok-insert_totals.ensures
