@@ -14,6 +14,7 @@ from tree import DEB, Done, output, run
 
 pytestmark = pytest.mark.package
 KNOWN = 6
+SLOWER = "longer if it gets less than a fifth of a processor"
 AN_INDEX = "CREATE INDEX vouchers_by_sale ON portal_vouchers (sold);"
 A_TABLE = "CREATE TABLE gift (id INTEGER PRIMARY KEY, code TEXT REFERENCES {} (code));"
 # What hinders nothing: an index that the program makes, tables of others, and what looks at tables of the program.
@@ -160,14 +161,14 @@ def test_how_long(venue: Venue) -> None:
     path = venue.database(4)
     for size, seconds in ((15, 25), (90, 660)):
         os.truncate(path, size << 20)
-        assert f"(schema version 6, {size} MB): guests and counters wait for up to {seconds} seconds.\n" in taken(venue), (
+        assert f"(schema version 6, {size} MB): guests and counters wait for up to {seconds} seconds, {SLOWER}.\n" in taken(venue), (
             "ten seconds for the start, one for each MB, and 8 more for each beyond 20")
 
 
 def test_how_long_by_name(venue: Venue) -> None:
     for name, size in (("north", 20), ("south", 30)):
         os.truncate(venue.database(4, place=f"portal-venues/{name}"), size << 20)
-    assert "50 MB): guests and counters wait for up to 150 seconds in all, one venue after another.\n" in taken(venue), (
+    assert f"50 MB): guests and counters wait for up to 150 seconds in all, one venue after another, {SLOWER}.\n" in taken(venue), (
         "of venues by name all together, each with a start of its own")
 
 
