@@ -1,17 +1,18 @@
 -- What the SELECT statements of lists mean, wherever the tables are in the schema.
 use Rattle.portal_tables_sql.proofs.Common.{ℕ, pos, negsuc, List, [], ◌∷◌, ◌++◌, codes, Option, Some, None}
 use Rattle.portal_tables_sql.proofs.Common.{refl, false, Int, Term, lit, col, op2, Schema, Table, place_of}
-use Rattle.portal_tables_sql.proofs.Common.{Ge, Le, Binary, TableExists}
+use Rattle.portal_tables_sql.proofs.Common.{Ge, Le, Binary, TableExists, Null}
 use Rattle.portal_tables_sql.proofs.Queries.{drafted, unlimited}
 use Rattle.portal_tables_sql.proofs.Lookup.{IsSelect, all_columns, by, column_is}
 use Rattle.portal_tables_sql.proofs.Selects.{select_means, up, where_is}
 use Rattle.portal_tables_sql.specs.Tables.{vouchers, vouchers_name, sessions, sessions_name}
-use Rattle.portal_tables_sql.proofs.SelectTexts.{voucher_columns}
+use Rattle.portal_tables_sql.proofs.SelectTexts.{voucher_columns, session_columns}
 use Rattle.sqlite_tied.specs.Compute.{everything}
 use Rattle.sqlite_ast.specs.declared.Expr.{Expr}
 use Rattle.sqlite_ast.specs.declared.Expr.TheVariants as expr
 use Rattle.sqlite_ast.specs.declared.Binary.TheVariants as binary
 use Rattle.sqlite_sql.specs.declared.ops.BinaryOp.TheVariants as by_op
+use Rattle.sqlite_sql.specs.declared.ops.CompareOp.TheVariants.{Gt}
 use Rattle.portal_tables_sql.proofs.WholeTables.{by_rowid, has_rowids, IsSelectOf}
 
 -- ---- the vouchers of a batch
@@ -107,25 +108,53 @@ refunded_means schema at tree exists =
     (record { parsed = _; read = refl; is = refl; timeless = refl; counted = refl }) refl refl
     (simp (exists.named, exists.there) refl) (simp (exists.low, exists.typed) refl) refl (λ base. refl)
 
--- ---- the end and the remaining allowance of each session
+-- ---- the sessions that are open at a time
 
-abbrev pub all_totals_text : List ℕ
-all_totals_text = codes "SELECT number, ends, remaining FROM portal_sessions ORDER BY number"
+abbrev pub open_sessions_text : List ℕ
+open_sessions_text =
+    codes "SELECT number, device, plan_id, opened, used, closed, ends, remaining FROM portal_sessions "
+    ++ codes "WHERE closed IS NULL AND (ends IS NULL OR ends > ?1) "
+    ++ codes "AND (remaining IS NULL OR remaining > 0) ORDER BY number"
 
-abbrev pub total_columns : List (List ℕ)
-total_columns = codes "number" ∷ codes "ends" ∷ codes "remaining" ∷ []
+-- column IS NULL
+abbrev is_null_in : List ℕ → Expr
+is_null_in name = expr.Binary binary.Is (expr.Column None name) expr.Null
 
--- the terms of the result
-abbrev pub total_terms : Table → List Term
-total_terms table = col 1 (place_of table 0) ∷ col 1 (place_of table 6) ∷ col 1 (place_of table 7) ∷ []
+-- column IS NULL OR column > bound
+abbrev null_or_above : List ℕ → Expr → Expr
+null_or_above name bound =
+    expr.Binary binary.Or (is_null_in name) (expr.Binary binary.Gt (expr.Column None name) bound)
 
-pub all_totals_means : (schema : Schema) (at tree : ℕ) → TableExists schema at (sessions tree)
-    → IsSelectOf schema all_totals_text (sessions tree) [] (total_terms (sessions tree)) total_columns
+-- WHERE closed IS NULL AND (ends IS NULL OR ends > ?1) AND (remaining IS NULL OR remaining > 0)
+abbrev where_open : Option Expr
+where_open =
+    Some (expr.Binary binary.And
+    (expr.Binary binary.And (is_null_in (codes "closed")) (null_or_above (codes "ends") (expr.Parameter 1)))
+    (null_or_above (codes "remaining") (expr.Integer (codes "0"))))
+
+-- the same as the terms that each row is tested by
+
+abbrev null_term : Term → Term
+null_term column = op2 (by_op.Is Binary) column (lit Null)
+
+abbrev null_or_above_term : Term → Term → Term
+null_or_above_term column bound =
+    op2 by_op.Or (null_term column) (op2 (by_op.Compare Gt Binary) column bound)
+
+abbrev pub open_terms : Table → List Term
+open_terms table = null_term (col 1 (place_of table 5))
+    ∷ null_or_above_term (col 1 (place_of table 6)) (col 0 0)
+    ∷ null_or_above_term (col 1 (place_of table 7)) (lit (Int (pos 0))) ∷ []
+
+pub open_sessions_means : (schema : Schema) (at tree : ℕ) → TableExists schema at (sessions tree)
+    → IsSelect schema open_sessions_text (sessions tree) (open_terms (sessions tree)) by_rowid unlimited
+    session_columns
 unfolding everything
-all_totals_means schema at tree exists =
-    select_means schema all_totals_text sessions_name total_columns None (up (codes "number")) None 0
-    (lit (Int (negsuc 0)), lit (Int (pos 0)))
-    (drafted tree [] (total_terms (sessions tree)) by_rowid unlimited)
-    (None ∷ Some Binary ∷ Some Binary ∷ [])
+open_sessions_means schema at tree exists =
+    select_means schema open_sessions_text sessions_name session_columns where_open (up (codes "number")) None
+    1 (lit (Int (negsuc 0)), lit (Int (pos 0)))
+    (drafted tree (open_terms (sessions tree)) (all_columns (sessions tree)) by_rowid unlimited)
+    (None ∷ Some Binary ∷ Some Binary ∷ Some Binary ∷ Some Binary ∷ Some Binary ∷ Some Binary ∷ Some Binary
+    ∷ [])
     (record { parsed = _; read = refl; is = refl; timeless = refl; counted = refl }) refl refl
     (simp (exists.named, exists.there) refl) (simp (exists.low, exists.typed) refl) refl (λ base. refl)

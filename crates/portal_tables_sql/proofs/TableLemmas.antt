@@ -1,5 +1,5 @@
 -- What each description says of its table.
-use Rattle.portal_tables_sql.proofs.Common.{◌≡◌, ◌≤◌, arith, inl, inr, ℕ, Bool, true, false, refl, Has}
+use Rattle.portal_tables_sql.proofs.Common.{◌≡◌, ◌≤◌, arith, inl, inr, ℕ, true, false, refl, Has}
 use Rattle.portal_tables_sql.proofs.Common.{Table}
 use Rattle.portal_tables_sql.proofs.Common.{Reference, NoAction}
 use Rattle.sqlite_schema.specs.Names.{same_name}

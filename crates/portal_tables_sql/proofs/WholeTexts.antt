@@ -11,7 +11,6 @@ use Rattle.portal_tables_sql.specs.Tables.{plans_name, batches_name, vouchers_na
 use Rattle.portal_tables_sql.specs.Tables.{grants_name, counts_name, totals_name, head_name, requests_name}
 use Rattle.portal_tables_sql.proofs.SelectTexts.{batch_columns, plan_columns, session_columns}
 use Rattle.portal_tables_sql.proofs.SelectTexts.{voucher_columns, head_columns}
-use Rattle.portal_tables_sql.proofs.ListTexts.{total_columns}
 use Rattle.portal_tables_sql.proofs.RequestTexts.{request_columns}
 use Rattle.sqlite_tied.specs.Compute.{everything}
 use Rattle.portal_tables_sql.proofs.WholeTables.{by_rowid, has_rowids}
@@ -197,6 +196,9 @@ old_counts_means schema keyed at tree exists =
     (record { parsed = _; read = refl; is = refl; timeless = refl; counted = refl }) refl refl
     (simp (exists.named, exists.there, has_rowids tree exists.low) refl)
     (simp (exists.low, exists.typed) refl) refl (λ base. refl)
+
+abbrev pub total_columns : List (List ℕ)
+total_columns = codes "number" ∷ codes "ends" ∷ codes "remaining" ∷ []
 
 abbrev pub old_totals_text : List ℕ
 old_totals_text = codes "SELECT number, ends, remaining FROM portal_totals ORDER BY number"

@@ -203,9 +203,12 @@ pub const SELECT_ALL_SESSIONS: &str =
 pub const SELECT_OLD_SESSIONS: &str =
     "SELECT number, device, plan_id, opened, used, closed FROM portal_sessions ORDER BY number";
 
-/// The ends and the remaining allowances of all sessions.
-pub const SELECT_ALL_TOTALS: &str =
-    "SELECT number, ends, remaining FROM portal_sessions ORDER BY number";
+/// The sessions that are open at a time: those that are not closed, end later or never, and have
+/// something left of their allowance or no limit.
+pub const SELECT_OPEN_SESSIONS: &str =
+    "SELECT number, device, plan_id, opened, used, closed, ends, remaining FROM portal_sessions \
+     WHERE closed IS NULL AND (ends IS NULL OR ends > ?1) AND (remaining IS NULL OR remaining > 0) \
+     ORDER BY number";
 
 pub const SET_USED: &str = "UPDATE portal_sessions SET used = ?2 WHERE number = ?1";
 
