@@ -48,8 +48,8 @@ pub use Rattle.portal_ledger.specs.declared.marked.MarkedChanges.{MarkedChanges}
 pub use Rattle.portal_ledger.specs.declared.request.KeptRequest.{KeptRequest}
 pub use Rattle.portal_tables_rows.proofs.SameCode.{code_test, same_code}
 pub use Rattle.portal_tables_rows.proofs.WholeReading.{first_held, first_there}
-pub use Rattle.portal_tables_rows.specs.Lists.{Lists, ListsAs, by_place, by_refund, by_sale}
-pub use Rattle.portal_tables_rows.specs.Lists.{is_left, is_within, may_be_open, numbers_open, refund_read}
+pub use Rattle.portal_tables_rows.specs.Lists.{Lists, ListsAs, ListsOpen, by_place, by_refund, by_sale}
+pub use Rattle.portal_tables_rows.specs.Lists.{is_left, is_open_row, is_within, refund_read}
 pub use Rattle.portal_tables_rows.specs.Lists.{refund_columns, sale_read, sale_columns}
 pub use Rattle.portal_tables_rows.specs.Sums.{rows_for_sums}
 pub use Rattle.portal_tables_rows.specs.declared.lists.SaleValue.{SaleValue}
@@ -67,7 +67,8 @@ pub use Rattle.portal_model.specs.Rows.{allowance_from, batch_among, batches_of,
 pub use Rattle.portal_model.specs.Rows.{count_from, count_of_place, counted_if, counts_of, voucher_of_rows}
 pub use Rattle.portal_model.specs.Rows.{session_of_rows, last_among, last_session_from, rows_after_changes}
 pub use Rattle.portal_model.specs.Rows.{new_counts, new_grant, new_vouchers, openings, places_of, plans_of}
-pub use Rattle.portal_model.specs.Rows.{refunded_if, remaining_of, row_among, row_of_place, rows_of}
+pub use Rattle.portal_model.specs.Rows.{refunded_if, remaining_of, row_among, row_of_opening, row_of_place}
+pub use Rattle.portal_model.specs.Rows.{rows_of, total_of_opening}
 pub use Rattle.portal_model.specs.Rows.{session_among, session_from, session_opened, sessions_of, sold_if}
 pub use Rattle.portal_model.specs.Rows.{total_among, total_from, total_row, totalled_if, totals_of, used_if}
 pub use Rattle.portal_model.specs.Rows.{voucher_from, vouchers_of}
@@ -80,13 +81,13 @@ pub use Rattle.portal_model.specs.declared.record.Session.{Session}
 pub use Rattle.portal_tables_rows.proofs.OthersLemmas.{others_none}
 pub use Rattle.portal_tables_rows.specs.Commands.{after_changes, after_command, after_command_with}
 pub use Rattle.portal_tables_rows.specs.Commands.{after_remainder, with_kept_request}
-pub use Rattle.portal_tables_rows.specs.Contents.{Contents, HeadRow}
+pub use Rattle.portal_tables_rows.specs.Contents.{Contents, HeadRow, WholeSession, total_of}
 pub use Rattle.portal_tables_rows.specs.First.{HasFirst}
 pub use Rattle.portal_tables_rows.specs.Holds.{HasTables, Holds, HoldsIn, CrashStateHoldsRows, TablePlaces}
 pub use Rattle.portal_tables_rows.specs.Holds.{TablesExist, this_schema_version}
 pub use Rattle.portal_tables_rows.specs.Others.{KeepsOthers, CrashStateHasOthers}
 pub use Rattle.portal_tables_rows.specs.Read.{head_read, session_read, session_total, voucher_count}
-pub use Rattle.portal_tables_rows.specs.Read.{voucher_read}
+pub use Rattle.portal_tables_rows.specs.Read.{voucher_read, whole_session_read}
 pub use Rattle.portal_tables_rows.specs.Steps.{CommitsRows, MayCommitRows, with_ends_if, ends_row}
 pub use Rattle.portal_tables_rows.specs.Steps.{with_moment, with_use}
 pub use Rattle.portal_tables_rows.specs.declared.rows.RowError.{RowError}
@@ -111,7 +112,7 @@ pub use Rattle.portal_tables.specs.Attaching.{IsCauseIn, CrashStateCarries, MayA
 pub use Rattle.portal_tables.specs.Attaching.{AttachesOthers, HasNoActionOnOurs, Stays, GivesKnownVersion}
 pub use Rattle.portal_tables.specs.Attaching.{HasNoTableOnOurs, MayBeCarried}
 pub use Rattle.portal_tables.specs.PaymentLists.{AreOrderedSales, AreRefunds, AreSales, is_paid_within}
-pub use Rattle.portal_tables.specs.PaymentLists.{open_session_of, payment_of}
+pub use Rattle.portal_tables.specs.PaymentLists.{payment_of}
 pub use Rattle.portal_tables.specs.Older.{HaveNoFingerprints, CrashStateHoldsEither, HoldsLedgerIn}
 pub use Rattle.portal_tables.specs.Prices.{ArePrices, payment_at, price_among}
 pub use Rattle.portal_tables.specs.HoldsLedger.{IsRowOf, OfLedger, OfHistory, ReadsHistory, HoldsHistory}
@@ -129,7 +130,7 @@ pub use Rattle.sqlite.specs.Held.{Held, state}
 pub use Rattle.sqlite.specs.Schema.{Schema}
 pub use Rattle.sqlite.specs.State.{HasCleanDisk, IsUnchanged, State, Survives}
 pub use Rattle.sqlite.specs.Tree.{IsAscending, Trees}
-pub use Rattle.sqlite_rules.proofs.ListLemmas.{all_has}
+pub use Rattle.sqlite_rules.proofs.ListLemmas.{all_has, has_filtered}
 pub use Rattle.sqlite_rules.specs.Lists.{Has}
 pub use Rattle.sqlite_store.specs.FileStore.{faults, is_shielded, recovers, view}
 pub use Rattle.sqlite_store.specs.Laws.{settled_at}

@@ -11,7 +11,6 @@ pub mod Leading
 pub mod LeftoverLemmas
 pub mod LikeLemmas
 pub mod ListLaws
-pub mod ListSteps
 pub mod Lookups
 pub mod OpeningLemmas
 pub mod OthersLemmas

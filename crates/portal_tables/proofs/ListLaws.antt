@@ -1,16 +1,17 @@
 -- From what the readers list to the lists of the history: the codes of a batch, and the open sessions.
-use Rattle.portal_tables.proofs.Common.{◌≡◌, ℕ, pos, ◌-ℤ◌, List, [], ◌∷◌, map, filter, Bool, true, false}
-use Rattle.portal_tables.proofs.Common.{◌&&◌, is_none, cond, Option, Some, None, All, refl, sym, ap, ap₂}
-use Rattle.portal_tables.proofs.Common.{subst, ◌∙◌, arith, bytes_eq, nat_lt, filter_map, cons_option}
+use Rattle.portal_tables.proofs.Common.{◌≡◌, inl, inr, ℕ, pos, ◌-ℤ◌, List, [], ◌∷◌, map, filter, Bool}
+use Rattle.portal_tables.proofs.Common.{◌&&◌, is_none, Option, Some, None, All, refl, sym, ap, ap₂}
+use Rattle.portal_tables.proofs.Common.{subst, ◌∙◌, arith, bytes_eq, nat_lt, AllByRecursion}
 use Rattle.portal_tables.proofs.Common.{range_with_len, IsPermutation, nat_tests, ints, All-head, All-tail}
-use Rattle.portal_tables.proofs.Common.{All-map, All-filter, All-weaker, filter-filter, IsCode, text_of}
-use Rattle.portal_tables.proofs.Common.{Session, all_sessions, History, codes_of, grants_of}
-use Rattle.portal_tables.proofs.Common.{session_of, kept_if, is_below, is_open_at, VoucherRow, TotalRow}
-use Rattle.portal_tables.proofs.Common.{vouchers_of, totals_of, openings, session_opened, total_row}
-use Rattle.portal_tables.proofs.Common.{remaining_of, IsLegal, IsFirst, openings_first}
-use Rattle.portal_tables.proofs.Common.{session_at, rows_are_typed, agree, ListsAs, by_place}
-use Rattle.portal_tables.proofs.Common.{is_left, may_be_open, numbers_open, open_session_of}
-use Rattle.portal_tables.proofs.Common.{voucher_kept, same_code}
+use Rattle.portal_tables.proofs.Common.{All-map, All-filter, All-from_recursion, All-weaker, IsCode, text_of}
+use Rattle.portal_tables.proofs.Common.{text_of_device, Session, all_sessions, Grant, History, codes_of}
+use Rattle.portal_tables.proofs.Common.{grants_of, session_of, is_below, is_open_at, VoucherRow, SessionRow}
+use Rattle.portal_tables.proofs.Common.{vouchers_of, sessions_of, totals_of, openings, row_of_opening}
+use Rattle.portal_tables.proofs.Common.{session_opened, total_of_opening, total_row, WholeSession, total_of}
+use Rattle.portal_tables.proofs.Common.{remaining_of, IsLegal, IsFirst, openings_first, Has, has_filtered}
+use Rattle.portal_tables.proofs.Common.{has_image, has_mapped, session_at, rows_are_typed, agree, ListsAs}
+use Rattle.portal_tables.proofs.Common.{ListsOpen, by_place, is_left, is_open_row, IsRowOf, SessionValue}
+use Rattle.portal_tables.proofs.Common.{session_kept, whole_session_read, voucher_kept, same_code}
 use Rattle.std.specs.Prelude.{int_lt}
 use Rattle.portal_model_laws.proofs.Basics.{map-map, filter-map, bytes_swap}
 use Rattle.portal_model_laws.proofs.Listings.{codes_are_rows}
@@ -63,63 +64,128 @@ module _ (h : History) (legal : IsLegal h) (id : List ℕ) where
 
 -- ---- open sessions
 
-has_left : (used all : ℕ) → nat_lt used all ≡ true → int_lt (pos 0) (pos all -ℤ pos used) ≡ true
-has_left used all h = grind (arith, ints, nat_tests)
+-- the row of a session and its total, as they are stored
+abbrev whole_of : Session → WholeSession
+whole_of s = record {
+  row = record {
+    number = s.number;
+    device = text_of_device s.device;
+    plan = s.plan;
+    opened = s.opened;
+    used = s.used;
+    closed = s.closed;
+  };
+  ends = s.ends;
+  remaining = remaining_of s.used s.allowance;
+}
 
--- what is open may be open by its end and what remains
-still_open : (t : ℕ) (s : Session) → is_open_at t s ≡ true → may_be_open t (total_row s) ≡ true
-still_open t s h = go (is_none s.closed) (is_below t s.ends) s.allowance h
+left_is : (used : ℕ) (o : Option ℕ) → is_left (remaining_of used o) ≡ is_below used o
+left_is used None = refl
+left_is used (Some all) = natural used all
   where
-    go : (a b : Bool) (o : Option ℕ) → (a && (b && is_below s.used o)) ≡ true
-        → (b && is_left (remaining_of s.used o)) ≡ true
-    go true true None h = refl
-    go true true (Some all) h = has_left s.used all h
-    go true false o h = h
-    go false b o h = absurd (cc)
+    natural : (a b : ℕ) → int_lt (pos 0) (pos b -ℤ pos a) ≡ nat_lt a b
+    natural a b = grind (arith, ints, nat_tests)
 
-module _ (h : History) (legal : IsLegal h) where
-  -- the numbers of the sessions that may be open
-  numbers_are : (t : ℕ) → numbers_open t (totals_of h) ≡ map (λ (s : Session). s.number)
-      (filter (λ (s : Session). may_be_open t (total_row s)) (all_sessions h))
-  numbers_are t =
-      ap (numbers_open t) (sym (map-map (session_opened h) total_row (openings (grants_of h))))
-      ∙ ap (map (λ (m : TotalRow). m.number)) (filter-map total_row (may_be_open t) (all_sessions h))
-      ∙ map-map total_row (λ (m : TotalRow). m.number)
-      (filter (λ (s : Session). may_be_open t (total_row s)) (all_sessions h))
+-- a session is open if its row says so
+open_is : (t : ℕ) (s : Session) → is_open_row t (whole_of s) ≡ is_open_at t s
+open_is t s = ap (λ b. is_none s.closed && (is_below t s.ends && b)) (left_is s.used s.allowance)
 
-  abbrev IsNumbered : Session → Type 0
-  IsNumbered s = session_of h s.number ≡ Some s
+somes : (xs ys : List Session) → map Some xs ≡ map Some ys → xs ≡ ys
+somes [] [] e = refl
+somes [] (y ∷ ys) e = absurd (cc)
+somes (x ∷ xs) [] e = absurd (cc)
+somes (x ∷ xs) (y ∷ ys) e =
+    let first : x ≡ y = cc in
+    let rest : map Some xs ≡ map Some ys = cc in
+    ap₂ ◌∷◌ first (somes xs ys rest)
 
-  -- each session is found by its number
-  numbered : All IsNumbered (all_sessions h)
-  numbered = All-map IsNumbered (session_opened h) (openings (grants_of h))
-      (All-weaker (IsFirst (grants_of h)) (λ g. IsNumbered (session_opened h g))
-      (λ g first. session_at h g first) (openings (grants_of h)) (openings_first (grants_of h)))
+module _ (h : History) where
+  -- the rows and the totals tell the whole rows
+  whole_is : (ws : List WholeSession) (gs : List Grant)
+      → map (λ (w : WholeSession). w.row) ws ≡ map session_kept (map (row_of_opening h) gs)
+      → map total_of ws ≡ map (total_of_opening h) gs → ws ≡ map (λ g. whole_of (session_opened h g)) gs
+  whole_is [] [] e f = refl
+  whole_is [] (g ∷ gs) e f = absurd (cc)
+  whole_is (w ∷ ws) [] e f = absurd (cc)
+  whole_is (w ∷ ws) (g ∷ gs) e f =
+      let row_is : w.row ≡ session_kept (row_of_opening h g) = cc in
+      let total_is : total_of w ≡ total_of_opening h g = cc in
+      let rows : map (λ (x : WholeSession). x.row) ws ≡ map session_kept (map (row_of_opening h) gs) = cc in
+      let totals : map total_of ws ≡ map (total_of_opening h) gs = cc in
+      ap₂ ◌∷◌ (λ i. record { row = row_is i; ends = (total_is i).ends; remaining = (total_is i).remaining })
+      (whole_is ws gs rows totals)
 
-  kept_open : (t : ℕ) (ss : List Session) → All IsNumbered ss
-      → filter_map (open_session_of h t) (map (λ (s : Session). s.number) ss) ≡ filter (is_open_at t) ss
-  kept_open t [] all = refl
-  kept_open t (s ∷ ss) all =
-      let here : session_of h s.number ≡ Some s = All-head IsNumbered s ss all in
-      let rest = kept_open t ss (All-tail IsNumbered s ss all) in
-      ap (λ (o : Option Session). cons_option (kept_if (is_open_at t) o)
-      (filter_map (open_session_of h t) (map (λ (x : Session). x.number) ss))) here ∙ go (is_open_at t s) rest
-    where
-      go : (b : Bool)
-          → filter_map (open_session_of h t) (map (λ (x : Session). x.number) ss) ≡ filter (is_open_at t) ss
-          → cons_option (cond b (Some s) None)
-          (filter_map (open_session_of h t) (map (λ (x : Session). x.number) ss))
-          ≡ cond b (s ∷ filter (is_open_at t) ss) (filter (is_open_at t) ss)
-      go true same = ap (λ xs. s ∷ xs) same
-      go false same = same
+  -- the session's row and its total are among those of the history
+  abbrev IsAmong : Session → Type 0
+  IsAmong s = ((row : SessionRow) × Has (sessions_of h) row × (session_kept row ≡ (whole_of s).row))
+      × Has (totals_of h) (total_row s)
 
-  pub open_listed : (t : ℕ) (numbers : List ℕ) (sessions : List Session)
-      → numbers ≡ numbers_open t (totals_of h) → sessions ≡ filter_map (open_session_of h t) numbers
-      → sessions ≡ filter (is_open_at t) (all_sessions h)
-  open_listed t numbers sessions is found =
-      let may : Session → Bool = λ (s : Session). may_be_open t (total_row s) in
-      found
-      ∙ ap (filter_map (open_session_of h t))
-      (is ∙ numbers_are t)
-      ∙ kept_open t (filter may (all_sessions h)) (All-filter may IsNumbered (all_sessions h) numbered)
-      ∙ filter-filter (is_open_at t) may (still_open t) (all_sessions h)
+  among : (s : Session) → Has (all_sessions h) s → IsAmong s
+  among s has =
+      let gs = openings (grants_of h) in
+      let it = has_image (session_opened h) gs s has in
+      subst IsAmong (sym it.2) (
+        (row_of_opening h it.0, has_mapped (row_of_opening h) gs it.0 it.1, refl),
+        has_mapped (total_of_opening h) gs it.0 it.1,
+      )
+
+  rows_among : (rows : List SessionValue) (ss : List Session)
+      → map whole_session_read rows ≡ map whole_of ss → ((s : Session) → Has ss s → IsAmong s)
+      → AllByRecursion (IsRowOf h) rows
+  rows_among [] ss e all = tt
+  rows_among (r ∷ rows) [] e all = absurd (cc)
+  rows_among (r ∷ rows) (s ∷ ss) e all =
+      let here : whole_session_read r ≡ whole_of s = cc in
+      let rest : map whole_session_read rows ≡ map whole_of ss = cc in
+      let it = all s (inl refl) in (
+        record {
+          of_history = it.0.0;
+          among = it.0.1;
+          is = ap (λ (w : WholeSession). w.row) here ∙ sym it.0.2;
+          totaled = subst (Has (totals_of h)) (sym (ap total_of here)) it.1;
+        },
+        rows_among rows ss rest (λ x has. all x (inr has)),
+      )
+
+  module _ (legal : IsLegal h) where
+    abbrev IsNumbered : Session → Type 0
+    IsNumbered s = session_of h s.number ≡ Some s
+
+    -- each session is found by its number
+    numbered : All IsNumbered (all_sessions h)
+    numbered = All-map IsNumbered (session_opened h) (openings (grants_of h))
+        (All-weaker (IsFirst (grants_of h)) (λ g. IsNumbered (session_opened h g))
+        (λ g first. session_at h g first) (openings (grants_of h)) (openings_first (grants_of h)))
+
+    all_found : (ss : List Session) → All IsNumbered ss
+        → map (λ (s : Session). session_of h s.number) ss ≡ map Some ss
+    all_found [] all = refl
+    all_found (s ∷ ss) all = ap₂ ◌∷◌ (All-head IsNumbered s ss all)
+        (all_found ss (All-tail IsNumbered s ss all))
+
+    module _ (t : ℕ) (rows : List SessionValue) (listed : ListsOpen t (map session_kept (sessions_of h))
+        (totals_of h) (map whole_session_read rows)) where
+      abbrev open_ones : List Session
+      open_ones = filter (is_open_at t) (all_sessions h)
+
+      rows_are : map whole_session_read rows ≡ map whole_of open_ones
+      rows_are = listed.are
+          ∙ ap (filter (is_open_row t))
+          (whole_is listed.whole (openings (grants_of h)) listed.their_rows listed.their_totals
+          ∙ sym (map-map (session_opened h) whole_of (openings (grants_of h))))
+          ∙ filter-map whole_of (is_open_row t) (all_sessions h)
+          ∙ (λ i. map whole_of (filter (λ s. open_is t s i) (all_sessions h)))
+
+      -- the rows are of the history
+      pub open_rows : All (IsRowOf h) rows
+      open_rows = All-from_recursion (IsRowOf h) rows (rows_among rows open_ones rows_are
+          (λ s has. among s (has_filtered (is_open_at t) (all_sessions h) s has).0))
+
+      -- and their sessions are the open ones
+      pub open_listed : (sessions : List Session)
+          → map Some sessions ≡ map (λ (r : SessionValue). session_of h r.number) rows → sessions ≡ open_ones
+      open_listed sessions found =
+          let of_row = λ (w : WholeSession). session_of h w.row.number in
+          somes sessions open_ones (found ∙ sym (map-map whole_session_read of_row rows)
+          ∙ ap (map of_row) rows_are ∙ map-map whole_of of_row open_ones
+          ∙ all_found open_ones (All-filter (is_open_at t) IsNumbered (all_sessions h) numbered))

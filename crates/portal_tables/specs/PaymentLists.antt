@@ -2,10 +2,9 @@
 use Rattle.std.specs.Prelude.{◌≡◌, ℕ, Bool, ◌&&◌, nat_le, List, map, filter, Option, Some, IsPermutation}
 use Rattle.std.specs.List.Sorted.{IsSorted}
 use Rattle.std.specs.declared.cmp.Ordering.{Ordering}
-use Rattle.portal_model.specs.History.{History, kept_if, is_open_at, session_of}
+use Rattle.portal_model.specs.History.{History}
 use Rattle.portal_model.specs.Payments.{Payment, payment, sales_of, sale_from, refunds_of, refund_from}
 use Rattle.portal_model.specs.Rows.{VoucherRow, rows_of, vouchers_of}
-use Rattle.portal_model.specs.declared.record.Session.{Session}
 use Rattle.portal_tables_rows.specs.Lists.{is_within, by_refund, by_sale}
 use Rattle.portal_tables.specs.HoldsLedger.{voucher_kept}
 
@@ -49,7 +48,3 @@ pub record AreRefunds (h : History) (from to : ℕ) (answer : List (ℕ × ℕ))
   pub same : IsPermutation (filter (λ v. is_within from to v.refunded) (vouchers_of h)) vouchers
   pub sorted : IsSorted by_printed_refund vouchers
   pub each : map refund_from vouchers ≡ map (λ p. Some (payment_of p)) answer
-
--- the session of the number, if it is open at the time
-abbrev pub open_session_of : History → ℕ → ℕ → Option Session
-open_session_of h t n = kept_if (is_open_at t) (session_of h n)

@@ -1,63 +1,25 @@
 //! Lists whose entries are read from several tables: open sessions, and sales with their prices.
 
 ghost use Rattle.std.specs.Prelude.{◌≡◌, filter};
-ghost use Rattle.std.specs.List.{filter_map};
 ghost use Rattle.portal_model.specs.Captive.{all_sessions};
 ghost use Rattle.portal_model.specs.History.{is_open_at};
 ghost use Rattle.portal_model.specs.Rows.{batches_of, plans_of};
-ghost use Rattle.portal_tables.specs.PaymentLists.{AreOrderedSales, AreSales, open_session_of};
+ghost use Rattle.portal_tables.specs.PaymentLists.{AreOrderedSales, AreSales};
 ghost use Rattle.portal_tables.specs.HoldsLedger.{ReadsHistory};
 
 use crate::prices::{price_sales, prices_by_batch};
-use crate::records::read_session;
+use crate::records::sessions_among;
 use portal_model::moment::Moment;
 use portal_model::plan::Plan;
-use portal_model::record::{Batch, Session, is_open};
-use portal_tables_rows::lists::{list_open_numbers, list_sales_as_issued, list_sales_by_moment};
+use portal_model::record::{Batch, Session};
+use portal_tables_rows::lists::{list_open_sessions, list_sales_as_issued, list_sales_by_moment};
 use portal_tables_rows::rows::RowError;
 use portal_tables_rows::whole::{read_all_batches, read_all_plans};
 use sqlite::{Alter, Connection};
 use std::alloc::Global;
 
-/// Reads the session with this number, or `None` if it is not open at the time `t`.
-fn read_session_if_open<S: Alter>(
-    conn: &mut Connection<S>,
-    number: u64,
-    t: Moment,
-) -> Result<Option<Session>, RowError>
-    ensures { ReadsHistory S.Store conn.old conn.new result (λ h found. found ≡ open_session_of h t number) }
-{
-    let Some(session) = read_session(conn, number)? else {
-        return Ok(None);
-    };
-    if is_open(&session, t) {
-        Ok(Some(session))
-    } else {
-        Ok(None)
-    }
-}
-
-/// Reads those of the sessions with these numbers that are open at the time `t`, in this order.
-fn read_sessions_if_open<S: Alter>(
-    alloc: Global,
-    conn: &mut Connection<S>,
-    numbers: &[u64],
-    t: Moment,
-) -> Result<Vec<Session>, RowError>
-    ensures { ReadsHistory S.Store conn.old conn.new result
-        (λ h sessions. sessions.items ≡ filter_map (open_session_of h t) numbers.now) }
-{
-    let mut sessions = Vec::new(alloc);
-    for number in numbers {
-        if let Some(session) = read_session_if_open(conn, *number, t)? {
-            sessions.push(session)?;
-        }
-    }
-    Ok(sessions)
-}
-
-/// Reads the sessions that are open at the time `t`, ordered by number. It does not look up sessions
-/// that have ended or have nothing left of their allowance.
+/// Reads the sessions that are open at the time `t`, ordered by number. It reads all plans once, and no row
+/// of another session.
 pub(crate) fn read_open_sessions<S: Alter>(
     alloc: Global,
     conn: &mut Connection<S>,
@@ -66,9 +28,9 @@ pub(crate) fn read_open_sessions<S: Alter>(
     ensures { ReadsHistory S.Store conn.old conn.new result
         (λ h sessions. sessions.items ≡ filter (is_open_at t) (all_sessions h)) }
 {
-    let numbers = list_open_numbers(alloc, conn, t)?;
-    let sessions = read_sessions_if_open(alloc, conn, &numbers, t)?;
-    Ok(sessions)
+    let plans = read_all_plans(conn)?;
+    let rows = list_open_sessions(alloc, conn, t)?;
+    Ok(sessions_among(alloc, &plans, &rows)?)
 }
 
 /// Reads all plans and all batches.

@@ -1,10 +1,11 @@
 //! Reads the records of a history, each from several tables.
 
-ghost use Rattle.std.specs.Prelude.{◌≡◌, Some, IfOk, is_some};
-ghost use Rattle.portal_model.specs.History.{plan_of, batch_of, issued_of, voucher_of, session_of};
+ghost use Rattle.std.specs.Prelude.{◌≡◌, All, Some, IfOk, is_some, map};
+ghost use Rattle.portal_model.specs.History.{History, plan_of, batch_of, issued_of, voucher_of, session_of};
 ghost use Rattle.portal_model.specs.History.{last_session_of};
 ghost use Rattle.portal_model.specs.Device.{IsDevice};
-ghost use Rattle.portal_model.specs.Rows.{allowance_from};
+ghost use Rattle.portal_model.specs.Rows.{allowance_from, plans_of};
+ghost use Rattle.portal_model.specs.Verdict.{IsLegal};
 ghost use Rattle.portal_tables.specs.HoldsLedger.{IsRowOf, ReadsHistory};
 
 use portal_codes::Code;
@@ -15,7 +16,9 @@ use portal_tables_rows::finds::{
     read_batch_row, read_last_session_row, read_plan_row, read_session_row, read_voucher_row,
 };
 use portal_tables_rows::rows::{RowError, SessionValue};
+use portal_tables_rows::sums::first_plan_with;
 use sqlite::{Alter, Connection};
+use std::alloc::Global;
 
 /// Reads a batch and its plan. Fails with `ForeignRow` if one is missing.
 pub(crate) fn read_batch_and_plan<S: Alter>(
@@ -91,19 +94,13 @@ fn allowance_of(remaining: Option<i64>, used: u64) -> Result<Option<u64>, RowErr
 /// 2^63: an INTEGER column holds the numbers below it.
 pub(crate) const LIMIT: u64 = 1 << 63;
 
-/// Makes a session from its row, with its end, its allowance and whether its plan extends sessions.
-/// Fails with `ForeignRow` if the plan is missing.
-fn session_of_row<S: Alter>(
-    conn: &mut Connection<S>,
-    row: &SessionValue,
-) -> Result<Session, RowError>
+/// Makes a session from its row and its plan, with its end, its allowance and whether the plan extends
+/// sessions.
+fn session_of_plan(plan: &Plan, row: &SessionValue) -> Result<Session, RowError>
     requires { IsDevice row.now.device }
-    ensures { ReadsHistory S.Store conn.old conn.new result
-        (λ h session. IsRowOf h row.now → Some session ≡ session_of h row.now.number) }
+    ensures { IfOk result (λ session. (h : History) → IsLegal h → plan_of h row.now.plan ≡ Some plan.now
+        → IsRowOf h row.now → Some session ≡ session_of h row.now.number) }
 {
-    let Some(plan) = read_plan_row(conn, &row.plan)? else {
-        return Err(RowError::ForeignRow);
-    };
     let allowance = allowance_of(row.remaining, row.used)?;
     Ok(Session {
         number: row.number,
@@ -116,6 +113,51 @@ fn session_of_row<S: Alter>(
         used: row.used,
         closed: row.closed,
     })
+}
+
+/// Makes a session from its row. Fails with `ForeignRow` if its plan is not among these.
+fn session_among(plans: &[Plan], row: &SessionValue) -> Result<Session, RowError>
+    requires { IsDevice row.now.device }
+    ensures { IfOk result (λ session. (h : History) → IsLegal h → plans.now ≡ plans_of h
+        → IsRowOf h row.now → Some session ≡ session_of h row.now.number) }
+{
+    match first_plan_with(plans, &row.plan) {
+        Some(plan) => session_of_plan(plan, row),
+        None => Err(RowError::ForeignRow),
+    }
+}
+
+/// Makes the sessions of these rows, in this order. Fails with `ForeignRow` if a plan is not among these.
+pub(crate) fn sessions_among(
+    alloc: Global,
+    plans: &[Plan],
+    rows: &[SessionValue],
+) -> Result<Vec<Session>, RowError>
+    requires { All (λ row. IsDevice row.device) rows.now }
+    ensures { IfOk result (λ sessions. (h : History) → IsLegal h → plans.now ≡ plans_of h
+        → All (IsRowOf h) rows.now
+        → map Some sessions.items ≡ map (λ row. session_of h row.number) rows.now) }
+{
+    let mut sessions = Vec::new(alloc);
+    for row in rows {
+        sessions.push(session_among(plans, row)?)?;
+    }
+    Ok(sessions)
+}
+
+/// Makes a session from its row, and looks its plan up. Fails with `ForeignRow` if the plan is missing.
+fn session_of_row<S: Alter>(
+    conn: &mut Connection<S>,
+    row: &SessionValue,
+) -> Result<Session, RowError>
+    requires { IsDevice row.now.device }
+    ensures { ReadsHistory S.Store conn.old conn.new result
+        (λ h session. IsRowOf h row.now → Some session ≡ session_of h row.now.number) }
+{
+    let Some(plan) = read_plan_row(conn, &row.plan)? else {
+        return Err(RowError::ForeignRow);
+    };
+    Ok(session_of_plan(&plan, row)?)
 }
 
 /// Reads the session with this number, or `None`.

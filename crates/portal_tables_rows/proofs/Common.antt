@@ -57,8 +57,8 @@ pub use Rattle.portal_tables_rows.specs.Holds.{HoldsIn, HoldsTables, IsTableAt, 
 pub use Rattle.portal_tables_rows.specs.Holds.{AreSessions, AreVouchers, TablePlaces, layout_of}
 pub use Rattle.portal_tables_rows.specs.Holds.{TablesExist, this_schema_version}
 pub use Rattle.portal_tables_rows.specs.Keyed.{has_keys}
-pub use Rattle.portal_tables_rows.specs.Lists.{IsOwnSale, Lists, ListsAs, by_place, by_refund}
-pub use Rattle.portal_tables_rows.specs.Lists.{by_sale, is_within, may_be_open, numbers_open, refund_columns}
+pub use Rattle.portal_tables_rows.specs.Lists.{IsOwnSale, Lists, ListsAs, ListsOpen, by_place, by_refund}
+pub use Rattle.portal_tables_rows.specs.Lists.{by_sale, is_open_row, is_within, refund_columns}
 pub use Rattle.portal_tables_rows.specs.Lists.{refund_read, sale_cells, sale_columns, sale_read}
 pub use Rattle.portal_tables_rows.specs.Migrations.{AreCountedOf, AreInOrder, AreTotaledOf, CommitsFrom}
 pub use Rattle.portal_tables_rows.specs.Migrations.{HasMigrated, IsReadFree, MayCommitFrom, MayMigrate}

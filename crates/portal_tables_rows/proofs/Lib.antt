@@ -26,6 +26,7 @@ pub mod MakeLemmas
 pub mod ManyValues
 pub mod MigrateLemmas
 pub mod NewTables
+pub mod OpenReading
 pub mod OthersLemmas
 pub mod OthersMade
 pub mod OwnRows

@@ -72,39 +72,6 @@ batch_simple schema h = let place = (h.0 our.Vouchers) in
     means_simple schema texts.batch_vouchers_text _ _
     (texts.batch_vouchers_means schema place.at place.tree (h.1.tables our.Vouchers (always _, tt)).exists)
 
--- ---- the ends of all sessions
-
-pub totals_rows_are : (old new : State) (rows : List Row) → Shown texts.all_totals_text [] old new rows
-    → (t : Contents) → Holds old.now t → rows ≡ map total_cells t.totals
-totals_rows_are old new rows shown t h =
-    let place = (h.places our.Sessions) in
-    let table = sessions place.tree in
-    let was = h.store our.Sessions (always _, tt) in
-    let three : Row → Row = λ r. column r 0 ∷ column r 6 ∷ column r 7 ∷ [] in
-    some_columns texts.all_totals_text table [] (texts.total_terms table) [] texts.total_columns old new
-    (λ _. true) (λ r. refl) three
-    (λ r. ap₃ (λ a b c. a ∷ b ∷ c ∷ []) (sym (field_at table 0 r (lit< tt)))
-    (sym (field_at table 6 r (lit< tt)))
-    (sym (field_at table 7 r (lit< tt))))
-    (texts.all_totals_means old.now.schema place.at place.tree (h.tables_exist.tables our.Sessions
-    (always _, tt)).exists) was.stored.are.rise rows shown
-    ∙ ap (map three) (all_pass _ ∙ sessions_in old.now.trees place.tree was.whole was.stored)
-    ∙ map-map three whole_session_cells was.whole ∙ sym (map-map total_cells total_of was.whole)
-    ∙ ap (map total_cells) was.their_totals
-  where
-    ap₃ : {A B C D : Type 0} (f : A → B → C → D) {a a' : A} {b b' : B} {c c' : C} → a ≡ a' → b ≡ b' → c ≡ c'
-        → f a b c ≡ f a' b' c'
-    ap₃ f p q r = λ i. f (p i) (q i) (r i)
-
-    all_pass : (xs : List Row) → filter (λ _. true) xs ≡ xs
-    all_pass [] = refl
-    all_pass (x ∷ xs) = ap (λ l. x ∷ l) (all_pass xs)
-
-pub totals_simple : (schema : Schema) → HasTables schema → IsSimple (understood schema texts.all_totals_text)
-totals_simple schema h = let place = (h.0 our.Sessions) in
-    means_simple schema texts.all_totals_text _ _
-    (texts.all_totals_means schema place.at place.tree (h.1.tables our.Sessions (always _, tt)).exists)
-
 -- ---- the vouchers with a time between two
 
 module _ (old new : State) (from to : ℕ) (rows : List Row) (t : Contents) (h : Holds old.now t) where

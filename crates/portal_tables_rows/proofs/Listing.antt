@@ -6,10 +6,9 @@ use Rattle.portal_tables_rows.proofs.Common.{nat_cmp, is_ge, is_le, IsSorted, na
 use Rattle.portal_tables_rows.proofs.Common.{length-map, map-append, filter-append, Null, Row, value_cmp, Ge}
 use Rattle.portal_tables_rows.proofs.Common.{Le, Binary, value_cmp-Int, value_cmp-Null, value_cmp-apart}
 use Rattle.portal_tables_rows.proofs.Common.{map-map, filter-map, pull_back, number, or_null, IsSelection}
-use Rattle.portal_tables_rows.proofs.Common.{columns, TotalRow, Total, ends_row, Lists, ListsAs, is_within}
-use Rattle.portal_tables_rows.proofs.Common.{may_be_open, numbers_open, sale_cells}
+use Rattle.portal_tables_rows.proofs.Common.{columns, Lists, ListsAs, is_within}
+use Rattle.portal_tables_rows.proofs.Common.{sale_cells}
 use Rattle.portal_tables_rows.specs.Lists.{ListsFirst}
-use Rattle.portal_tables_rows.proofs.Compose.{more_mapped}
 use Rattle.std.proofs.lemmas.List.{take-map}
 use Rattle.std.specs.Option.{option_cmp}
 use Rattle.sqlite.specs.declared.types.Value.{Value}
@@ -33,7 +32,7 @@ abbrev pub sql_within : Value → Value → Value → Bool
 sql_within v low high = is_true (binary (by_op.Compare Ge Binary) v low)
     && (is_true (binary (by_op.Compare Le Binary) v high) && true)
 
-truth_back : (b : Bool) → is_true (from_truth (Some b)) ≡ b
+pub truth_back : (b : Bool) → is_true (from_truth (Some b)) ≡ b
 truth_back true = refl
 truth_back false = refl
 
@@ -43,7 +42,7 @@ not_below a b = grind (arith, nat_tests)
 not_above : (a b : ℕ) → is_le (nat_cmp a b) ≡ nat_le a b
 not_above a b = grind (arith, nat_tests)
 
-and_true : (b : Bool) → (b && true) ≡ b
+pub and_true : (b : Bool) → (b && true) ≡ b
 and_true true = refl
 and_true false = refl
 
@@ -132,25 +131,3 @@ module _ {P : Type 0} (cells : P → Row) (passes : P → Bool) (cmp : P → P �
       ap (map (columns count)) (first ∙ ap (take limit) l.shows ∙ take-map cells limit l.listed)
       ∙ map-map (columns count) cells firsts ∙ (λ i. map (λ p. all p i) firsts) in
       record { all = l.listed; lists = l.lists; first = exact_list exact kept firsts (are ∙ shown) }
-
--- ---- the numbers of the sessions that may be open, one total after another
-
-numbers_push : (at : ℕ) (totals : List TotalRow) (m : TotalRow) → numbers_open at (totals ++ m ∷ [])
-    ≡ numbers_open at totals ++ cond (may_be_open at m) (m.number ∷ []) []
-numbers_push at totals m =
-    ap (map (λ (x : TotalRow). x.number)) (filter-append (may_be_open at) totals (m ∷ []))
-    ∙ map-append (λ (x : TotalRow). x.number) (filter (may_be_open at) totals)
-    (filter (may_be_open at) (m ∷ []))
-    ∙ ap (λ ns. numbers_open at totals ++ ns) (one (may_be_open at m))
-  where
-    one : (b : Bool) → map (λ (x : TotalRow). x.number) (cond b (m ∷ []) []) ≡ cond b (m.number ∷ []) []
-    one true = refl
-    one false = refl
-
-pub numbers_more : (at : ℕ) (totals : List Total) (i : ℕ) (total : Total) → i < length totals
-    → total ≡ get_or totals i total
-    → numbers_open at (map ends_row (take (i + 1) totals)) ≡ numbers_open at (map ends_row (take i totals))
-    ++ cond (may_be_open at (ends_row total)) (total.number ∷ []) []
-numbers_more at totals i total within is =
-    ap (numbers_open at) (more_mapped ends_row totals i total within is)
-    ∙ numbers_push at (map ends_row (take i totals)) (ends_row total)

@@ -42,7 +42,7 @@ and_true : (b : Bool) → (b && true) ≡ b
 and_true true = refl
 and_true false = refl
 
-or_back : (a b : Bool) → is_true (binary by_op.Or (from_truth (Some a)) (from_truth (Some b))) ≡ (a || b)
+pub or_back : (a b : Bool) → is_true (binary by_op.Or (from_truth (Some a)) (from_truth (Some b))) ≡ (a || b)
 unfolding binary
 or_back true true = refl
 or_back true false = refl

@@ -8,7 +8,6 @@ use Rattle.portal_tables_rows.proofs.Asking.{understood_idle}
 use Rattle.portal_tables_sql.proofs.WholeTexts as texts
 use Rattle.portal_tables_sql.proofs.RequestTexts.{request_columns}
 use Rattle.portal_tables_sql.proofs.SelectTexts.{head_columns, batch_columns}
-use Rattle.portal_tables_sql.proofs.ListTexts.{total_columns}
 use Rattle.portal_tables_rows.proofs.Common.{head_name, batches_name, counts_name, totals_name, requests_name}
 use Rattle.portal_tables_sql.specs.Copies.{select_of as select_all_of}
 use Rattle.portal_tables_sql.specs.declared.copied_tables.CopiedTable.{CopiedTable}
@@ -145,7 +144,7 @@ pub old_totals_asked : OnlyAsks texts.old_totals_text
 unfolding everything
 old_totals_asked schema c is =
     (understood_idle texts.old_totals_text
-    (written.Select (select_of totals_name total_columns None (up (codes "number")) None)) 0 (record {
+    (written.Select (select_of totals_name texts.total_columns None (up (codes "number")) None)) 0 (record {
       parsed = _;
       read = refl;
       is = refl;

@@ -13,7 +13,6 @@ use Rattle.portal_tables_rows.proofs.Cells.{heads_in, plans_in, batches_in, vouc
 use Rattle.portal_tables_rows.proofs.Cells.{grants_in, counts_in, totals_in, requests_in, old_vouchers_in}
 use Rattle.portal_tables_rows.proofs.Cells.{old_sessions_in}
 use Rattle.portal_tables_sql.proofs.RequestTexts.{request_columns}
-use Rattle.portal_tables_sql.proofs.ListTexts.{total_columns}
 use Rattle.portal_tables_sql.proofs.SelectTexts.{batch_columns, head_columns, plan_columns}
 use Rattle.portal_tables_sql.proofs.SelectTexts.{session_columns, voucher_columns}
 use Rattle.portal_tables_sql.proofs.WholeTables.{whole_table}
@@ -257,7 +256,7 @@ pub old_totals_are : (old new : State) (rows : List Row) → Shown texts.old_tot
 old_totals_are old new rows shown t h =
     let place = h.1.places our.Totals in
     let stored = h.1.store our.Totals (lit≤ tt, tt) in
-    whole_table texts.old_totals_text (old_totals h.0 place.tree) total_columns old new
+    whole_table texts.old_totals_text (old_totals h.0 place.tree) texts.total_columns old new
     (texts.old_totals_means old.now.schema h.0 place.at place.tree
     (h.1.tables_exist.tables our.Totals (lit≤ tt, tt)).exists) stored.are.rise rows shown
     ∙ totals_in old.now.trees place.tree t.totals stored

@@ -1,6 +1,7 @@
 -- Lists of the values of a table that pass a test, in an order.
 use Rattle.std.specs.Prelude.{◌≡◌, ℕ, ℤ, pos, Bool, true, false, ◌&&◌, ◌||◌, nat_le, nat_lt, int_lt, List, []}
-use Rattle.std.specs.Prelude.{◌∷◌, map, take, filter, Option, Some, None, IsSome, IsPermutation}
+use Rattle.std.specs.Prelude.{◌∷◌, map, take, filter, Option, Some, None, IsSome, is_none}
+use Rattle.std.specs.Prelude.{IsPermutation}
 use Rattle.std.specs.List.Sorted.{IsSorted}
 use Rattle.std.specs.Option.{option_cmp}
 use Rattle.std.specs.Ordering.{ordering_then, nat_cmp, is_ge, is_lt}
@@ -12,7 +13,8 @@ use Rattle.portal_tables_sql.specs.Stored.{or_null}
 use Rattle.portal_model.specs.History.{is_below}
 use Rattle.portal_model.specs.IdText.{IsIdText}
 use Rattle.portal_model.specs.declared.record.Batch.{Batch}
-use Rattle.portal_model.specs.Rows.{VoucherRow, GrantRow, TotalRow}
+use Rattle.portal_model.specs.Rows.{VoucherRow, SessionRow, GrantRow, TotalRow}
+use Rattle.portal_tables_rows.specs.Contents.{WholeSession, total_of}
 use Rattle.portal_tables_rows.specs.Foreign.{IsMomentIfSome}
 use Rattle.portal_tables_rows.specs.declared.lists.SaleValue.{SaleValue}
 
@@ -58,13 +60,17 @@ abbrev pub is_left : Option ℤ → Bool
 is_left None = true
 is_left (Some left) = int_lt (pos 0) left
 
--- by its end and its remaining allowance the session may be open at the time
-abbrev pub may_be_open : ℕ → TotalRow → Bool
-may_be_open at m = is_below at m.ends && is_left m.remaining
+-- the session is open at the time: not closed, before its end, and with something left
+abbrev pub is_open_row : ℕ → WholeSession → Bool
+is_open_row at w = is_none w.row.closed && (is_below at w.ends && is_left w.remaining)
 
--- the numbers of the sessions that may be open at the time
-abbrev pub numbers_open : ℕ → List TotalRow → List ℕ
-numbers_open at totals = map (λ m. m.number) (filter (may_be_open at) totals)
+-- the sessions with their totals that are open at the time, in the order of the rows
+pub record ListsOpen (at : ℕ) (sessions : List SessionRow) (totals : List TotalRow)
+    (listed : List WholeSession) : Type 0 where
+  pub whole : List WholeSession
+  pub their_rows : map (λ w. w.row) whole ≡ sessions
+  pub their_totals : map total_of whole ≡ totals
+  pub are : listed ≡ filter (is_open_row at) whole
 
 -- ---- orders
 

@@ -1,19 +1,15 @@
-//! Filtered and ordered lists: the codes of a batch, the sessions that may be open, and the sales and
-//! refunds between two times.
+//! Filtered and ordered lists: the codes of a batch, the open sessions, and the sales and refunds between
+//! two times.
 
 ghost use Rattle.std.specs.Prelude.{◌≡◌, IfOk, IsSome, List, map, filter, true, bytes_eq, All};
 ghost use Rattle.portal_codes.specs.Code.{IsCode, text_of};
+ghost use Rattle.portal_model.specs.Device.{IsDevice};
 ghost use Rattle.portal_model.specs.Rows.{VoucherRow};
 ghost use Rattle.portal_tables_rows.specs.Foreign.{AreOwn, IsOwnRefund, IsOwnTotal, IsOwnVoucher, NotForeign};
-ghost use Rattle.portal_tables_rows.specs.Foreign.{IsOfOwn};
+ghost use Rattle.portal_tables_rows.specs.Foreign.{IsOfOwn, IsOwnSession};
 ghost use Rattle.portal_tables_rows.specs.Selects.{ReadsRow};
-ghost use Rattle.portal_tables_rows.specs.Lists.{
-  Lists,
-  ListsAs,
-  is_within,
-  may_be_open,
-};
-ghost use Rattle.portal_tables_rows.specs.Lists.{numbers_open, IsOwnSale, sale_cells};
+ghost use Rattle.portal_tables_rows.specs.Lists.{Lists, ListsAs, ListsOpen, is_within};
+ghost use Rattle.portal_tables_rows.specs.Lists.{IsOwnSale, sale_cells};
 ghost use Rattle.portal_tables_rows.specs.Lists.{
   by_place,
   by_refund,
@@ -23,19 +19,17 @@ ghost use Rattle.portal_tables_rows.specs.Lists.{
 };
 ghost use Rattle.portal_tables_rows.specs.Lists.{refund_columns, refund_read};
 ghost use Rattle.portal_tables_rows.specs.Audit.{AreAmong};
-ghost use Rattle.portal_tables_rows.specs.Read.{voucher_read, voucher_count};
-ghost use Rattle.portal_tables_rows.specs.Steps.{ends_row};
+ghost use Rattle.portal_tables_rows.specs.Read.{voucher_read, voucher_count, whole_session_read};
 
-use crate::column_values::Total;
 use crate::from_row::FromRow;
 use crate::queries::read_many;
-use crate::rows::{RowError, VoucherValue, id_in, moment_in};
+use crate::rows::{RowError, SessionValue, VoucherValue, id_in, moment_in};
 use portal_codes::Code;
 use portal_model::moment::Moment;
 use portal_model::name::Id;
 use portal_model::proof::witness;
 use portal_tables_sql::statements::{
-    SELECT_ALL_TOTALS, SELECT_BATCH_VOUCHERS, SELECT_REFUNDED_VOUCHERS, SELECT_SALES_AS_ISSUED,
+    SELECT_BATCH_VOUCHERS, SELECT_OPEN_SESSIONS, SELECT_REFUNDED_VOUCHERS, SELECT_SALES_AS_ISSUED,
     SELECT_SOLD_VOUCHERS,
 };
 use sqlite::{Alter, Connection, Row, params};
@@ -83,29 +77,6 @@ pub(crate) fn codes_of_vouchers(
         codes.push(voucher.code)?;
     }
     Ok(codes)
-}
-
-/// Whether a session may be open at the time `at`: it has not ended by then, and something is left of
-/// its allowance.
-fn may_be_open(total: &Total, at: Moment) -> bool
-    ensures { result ≡ may_be_open at (ends_row total.now) }
-{
-    total.ends.is_none_or(|ends| at < ends) && total.remaining.is_none_or(|left| left > 0)
-}
-
-/// Returns the numbers of those of these sessions that may be open at the time `at`, in this order. The
-/// only error is out of memory.
-fn numbers_of_open(alloc: Global, totals: &[Total], at: Moment) -> Result<Vec<u64>, RowError>
-    ensures numbers { IfOk result (λ numbers. numbers.items ≡ numbers_open at (map ends_row totals.now)) }
-    ensures memory { NotForeign result }
-{
-    let mut numbers = Vec::new(alloc);
-    for total in totals {
-        if may_be_open(total, at) {
-            numbers.push(total.number)?;
-        }
-    }
-    Ok(numbers)
 }
 
 /// Returns the sale of a voucher. Fails with `ForeignRow` if the voucher was not sold.
@@ -194,19 +165,19 @@ pub fn list_batch_codes<S: Alter>(
     Ok(codes_of_vouchers(alloc, &vouchers)?)
 }
 
-/// Lists the numbers of the sessions that may be open at the time `at`, in the order of the rows. Every other
-/// session has ended by then or has nothing left of its allowance.
-pub fn list_open_numbers<S: Alter>(
+/// Lists the rows of the sessions that are open at the time `at`, ordered by number, each with its end and
+/// its remaining allowance.
+pub fn list_open_sessions<S: Alter>(
     alloc: Global,
     conn: &mut Connection<S>,
     at: Moment,
-) -> Result<Vec<u64>, RowError>
-    ensures { ReadsRow S.Store conn.old conn.new result
-        (λ t numbers. numbers.items ≡ numbers_open at t.totals)
-        (λ t. AreOwn IsOwnTotal t.totals) }
+) -> Result<Vec<SessionValue>, RowError>
+    ensures of_rows { IfOk result (λ sessions. All (λ row. IsDevice row.device) sessions.items) }
+    ensures reads { ReadsRow S.Store conn.old conn.new result
+        (λ t sessions. ListsOpen at t.sessions t.totals (map whole_session_read sessions.items))
+        (λ t. AreOwn IsOwnSession t.sessions × AreOwn IsOwnTotal t.totals) }
 {
-    let totals: Vec<Total> = read_many(alloc, conn, SELECT_ALL_TOTALS, &[])?;
-    Ok(numbers_of_open(alloc, &totals, at)?)
+    read_many(alloc, conn, SELECT_OPEN_SESSIONS, params![at.get() as i64])
 }
 
 /// Lists the sales between two times, both included, in the order in which their vouchers were issued.

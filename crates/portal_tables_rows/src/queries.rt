@@ -1,7 +1,7 @@
 //! Runs a query and reads the rows of its result as values: the first row, each row as it comes, or all
 //! rows of a table at once.
 
-ghost use Rattle.std.specs.Prelude.{[]};
+ghost use Rattle.std.specs.Prelude.{[], All, IfOk};
 ghost use Rattle.sqlite.specs.Values.{bound};
 ghost use Rattle.portal_tables_rows.specs.Selects.{ReadsMany, ReadsOne};
 
@@ -36,7 +36,8 @@ pub fn read_many<S: Alter, T: FromRow + Drop>(
     sql: &str,
     params: &[ValueRef<'_>],
 ) -> Result<Vec<T>, RowError>
-    ensures { ReadsMany S.Store T.cells T.width T.own sql.now (bound params.now)
+    ensures proper { IfOk result (λ values. All T.proper values.items) }
+    ensures reads { ReadsMany S.Store T.cells T.width T.own sql.now (bound params.now)
         conn.old conn.new result }
 {
     let mut values = Vec::new(alloc);

@@ -7,4 +7,4 @@ pub returns : goal.returns
 returns g c =
     lists_vouchers g.S.Store _ _ (λ (v : VoucherRow). bytes_eq c.args.batch.now v.batch) by_place
     batch_simple (λ rows shown t h. batch_rows_are _ _ c.args.batch.now rows shown t h)
-    (rw (c.params-to_sql.ensures, c.text.ensures.value) at c.read_many.ensures)
+    (rw (c.params-to_sql.ensures, c.text.ensures.value) at c.read_many.ensures.reads)

@@ -21,7 +21,7 @@ returns g c =
       to_z_pos w64 c.get-2.result high,
       c.get.ensures.value,
       c.get-2.ensures.value,
-    ) at c.in_ok-vouchers.ensures))
+    ) at c.in_ok-vouchers.ensures.reads))
     (λ t lists. record {
       listed = map voucher_read vouchers;
       lists = lists.0;
@@ -45,7 +45,7 @@ returns-in_err-vouchers g c =
       to_z_pos w64 c.get-2.result high,
       c.get.ensures.value,
       c.get-2.ensures.value,
-    ) at c.in_err-vouchers.ensures))
+    ) at c.in_err-vouchers.ensures.reads))
 
 pub returns-in_err-refunds_of_vouchers : goal.returns-in_err-refunds_of_vouchers
 returns-in_err-refunds_of_vouchers g c =
@@ -64,7 +64,7 @@ returns-in_err-refunds_of_vouchers g c =
       to_z_pos w64 c.get-2.result high,
       c.get.ensures.value,
       c.get-2.ensures.value,
-    ) at c.in_ok-vouchers.ensures))
+    ) at c.in_ok-vouchers.ensures.reads))
     (λ t lists. rw told.1 tt)
     (λ t lists own.
     let kept = listed_own IsOwnRefund (λ (v : VoucherRow). is_within c.args.from c.args.to v.refunded)

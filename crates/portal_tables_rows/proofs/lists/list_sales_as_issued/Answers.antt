@@ -29,4 +29,4 @@ returns g c =
       to_z_pos w64 c.get-2.result high,
       c.get.ensures.value,
       c.get-2.ensures.value,
-    ) at c.read_many.ensures)
+    ) at c.read_many.ensures.reads)

@@ -24,4 +24,4 @@ returns g c =
       c.params-to_sql.ensures,
       c.params-to_sql-2.ensures,
       to_z_pos w64 c.args.issued c.requires,
-    ) at c.read_many.ensures)
+    ) at c.read_many.ensures.reads)

@@ -16,7 +16,7 @@ returns-clause-reads g c =
     (λ rows shown t h. let it = last_grants_rows_are _ _ text rows shown t h in
     tells_first grant_cells 6 (λ x. refl) exact_grant IsOwnGrant grant_read
     (λ (x : GrantRow). bytes_eq text x.code) by_newest 101 t.grants it.0 rows it.1 it.2)
-    (rw (c.params-to_sql.ensures, c.as_bytes.ensures, c.text-text.ensures.value) at c.read_many.ensures)
+    (rw (c.params-to_sql.ensures, c.as_bytes.ensures, c.text-text.ensures.value) at c.read_many.ensures.reads)
 
 pub returns-clause-code : goal.returns-clause-code
 returns-clause-code g c = c.text-text.ensures.spells.is_code

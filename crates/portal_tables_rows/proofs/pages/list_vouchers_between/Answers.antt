@@ -25,4 +25,4 @@ returns g c =
           t.vouchers t.counts was.their_rows was.their_counts vs.items (first.is vs cut);
       owns = λ own. first.owns (own_vouchers was.whole t.vouchers was.their_rows own);
     })
-    (rw (c.params-to_sql.ensures, c.params-to_sql-2.ensures) at c.read_many.ensures)
+    (rw (c.params-to_sql.ensures, c.params-to_sql-2.ensures) at c.read_many.ensures.reads)

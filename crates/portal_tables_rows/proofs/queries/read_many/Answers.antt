@@ -1,4 +1,4 @@
-use Rattle.portal_tables_rows.proofs.Common.{refl, ◌∙◌, rules, err_from_is_err_and, state, HasCleanDisk}
+use Rattle.portal_tables_rows.proofs.Common.{refl, sym, subst, ◌∙◌, All, All-push, arith, rules, err_from_is_err_and, state, HasCleanDisk}
 use Rattle.portal_tables_rows.proofs.Common.{columns, looks_read}
 use Rattle.sqlite.specs.Values.{bound}
 use Rattle.portal_tables_sql.specs.Asks.{Asks}
@@ -7,8 +7,8 @@ use Rattle.portal_tables_sql.proofs.Streaming.{begins_reading, fails_refused, fa
 use Rattle.portal_tables_sql.proofs.Streaming.{reads_row, reads_value}
 use Rattle.portal_tables_rows.proofs.queries.read_many.Goals as goal
 
-pub returns-in_err-rows : goal.returns-in_err-rows
-returns-in_err-rows g c =
+pub returns-in_err-rows-clause-reads : goal.returns-in_err-rows-clause-reads
+returns-in_err-rows-clause-reads g c =
     let told = err_from_is_err_and c.from_residual.result c.from_residual.ensures.1 in
     record {
       rows = λ clean asks. rw told.1 tt;
@@ -22,6 +22,7 @@ rows-init g c =
     let made = c.in_ok-rows.ensures in
     record {
       lender = refl;
+      proper = rw c.new-values.ensures.items (λ k d within. absurd (omega arith));
       reads = begins_reading g.S.Store c.args.sql.now (bound c.args.params.now) g.T.FromRow.cells
           g.T.FromRow.width c.args.conn.now _ made.begun made.survives c.new-values.result.items
           c.new-values.ensures.items;
@@ -32,6 +33,8 @@ rows-preserved g c =
     let moved = c.next.follows.holds-at-none in
     record {
       lender = moved.same_reference ∙ c.rows.invariant.lender;
+      proper = rw c.in_ok-push.ensures.items (All-push g.T.FromRow.proper c.rows.values.items
+          c.in_ok-from_row.field-0 c.rows.invariant.proper c.in_ok-from_row.ensures.proper);
       reads = reads_value g.S.Store c.args.sql.now (bound c.args.params.now) g.T.FromRow.cells
           g.T.FromRow.width (state g.S.Store c.args.conn.now) c.rows.rows c.next.follows.lender-at-none
           c.rows.values.items c.rows.invariant.reads c.next.result c.next.follows.holds-at-none c.in-Some.row
@@ -39,8 +42,8 @@ rows-preserved g c =
           c.push.new.self.items c.in_ok-push.ensures.items;
     }
 
-pub returns-in_err-row : goal.returns-in_err-row
-returns-in_err-row g c =
+pub returns-in_err-row-clause-reads : goal.returns-in_err-row-clause-reads
+returns-in_err-row-clause-reads g c =
     let told = err_from_is_err_and c.from_residual-in_err-row.result c.from_residual-in_err-row.ensures.1 in
     let failed =
     fails_on g.S.Store c.args.sql.now (bound c.args.params.now) g.T.FromRow.cells g.T.FromRow.width
@@ -54,8 +57,8 @@ returns-in_err-row g c =
       own = λ clean simple own. rw (told.1, told.2) tt;
     }
 
-pub returns-in_default : goal.returns-in_default
-returns-in_default g c =
+pub returns-in_default-clause-reads : goal.returns-in_default-clause-reads
+returns-in_default-clause-reads g c =
     let read = reads_row g.S.Store c.args.sql.now (bound c.args.params.now) g.T.FromRow.cells
     g.T.FromRow.width (state g.S.Store c.args.conn.now) c.rows.rows c.next.follows.lender-at-none
     c.rows.values.items c.rows.invariant.reads c.next.result c.next.follows.holds-at-none _ c.in_ok-row.was in
@@ -71,8 +74,8 @@ returns-in_default g c =
       own = λ clean simple own. tt;
     }
 
-pub returns-in_err-from_row : goal.returns-in_err-from_row
-returns-in_err-from_row g c =
+pub returns-in_err-from_row-clause-reads : goal.returns-in_err-from_row-clause-reads
+returns-in_err-from_row-clause-reads g c =
     let told =
     err_from_is_err_and c.from_residual-in_err-from_row.result c.from_residual-in_err-from_row.ensures.1 in
     let read = reads_row g.S.Store c.args.sql.now (bound c.args.params.now) g.T.FromRow.cells
@@ -95,8 +98,8 @@ returns-in_err-from_row g c =
           (rw c.in-Some.is at c.in_ok-row.was) late simple (λ rows shown. own rows (search rules))));
     }
 
-pub returns-in_err-push : goal.returns-in_err-push
-returns-in_err-push g c =
+pub returns-in_err-push-clause-reads : goal.returns-in_err-push-clause-reads
+returns-in_err-push-clause-reads g c =
     let told = err_from_is_err_and c.from_residual-in_err-push.result c.from_residual-in_err-push.ensures.1 in
     let read = reads_row g.S.Store c.args.sql.now (bound c.args.params.now) g.T.FromRow.cells
     g.T.FromRow.width (state g.S.Store c.args.conn.now) c.rows.rows c.next.follows.lender-at-none
