@@ -7,5 +7,5 @@ returns-in-Some c =
     IfOk-weaker c.session_of_plan.result _ _ (λ session is h legal plans is_row.
     let id = c.args.row.now.plan in
     let plan = plan_is_row h id ∙ ap (λ (ps : List Plan). plan_among ps id) (sym plans)
-    ∙ sym c.first_plan_with.ensures in
+    ∙ sym c.in-Some.ensures in
     is h legal plan is_row) c.session_of_plan.ensures
