@@ -20,6 +20,7 @@ pub mod PriceLemmas
 pub mod RedemptionLemmas
 pub mod RedemptionRows
 pub mod Reported
+pub mod SessionRows
 pub mod ShownLemmas
 pub mod Spelled
 pub mod StateLemmas

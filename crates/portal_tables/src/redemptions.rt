@@ -1,14 +1,16 @@
 //! Reads the last redemptions of a voucher.
 
-ghost use Rattle.std.specs.Prelude.{◌≡◌, ◌<◌, ◌≤◌, ◌^◌, Some, map};
+ghost use Rattle.std.specs.Prelude.{◌≡◌, ◌<◌, ◌≤◌, ◌^◌, Some, IfOk, map};
 ghost use Rattle.std.specs.List.{filter_map};
-ghost use Rattle.portal_model.specs.History.{grants_of};
+ghost use Rattle.portal_model.specs.Device.{IsDevice};
+ghost use Rattle.portal_model.specs.History.{History, grants_of, is_open_at, session_of};
 ghost use Rattle.portal_model.specs.Redemptions.{
   first_redemptions,
   is_in_session,
   redemptions_among,
 };
-ghost use Rattle.portal_tables.specs.HoldsLedger.{ReadsHistory};
+ghost use Rattle.portal_model.specs.declared.record.Session.{Session};
+ghost use Rattle.portal_tables.specs.HoldsLedger.{IsRowOf, ReadsHistory};
 ghost use Rattle.portal_tables.specs.RedemptionLists.{
   AreGrantsOf,
   IsGrantOf,
@@ -17,14 +19,14 @@ ghost use Rattle.portal_tables.specs.RedemptionLists.{
   redemption_numbered,
 };
 
-use crate::records::{LIMIT, read_session};
+use crate::records::LIMIT;
 use portal_codes::Code;
 use portal_model::moment::Moment;
-use portal_model::record::is_open;
 use portal_model::redemptions::Redemption;
+use portal_tables_rows::finds::read_session_row;
 use portal_tables_rows::grants::GrantValue;
 use portal_tables_rows::pages::{list_last_grants, read_grant_row};
-use portal_tables_rows::rows::RowError;
+use portal_tables_rows::rows::{RowError, SessionValue};
 use sqlite::{Alter, Connection};
 use std::alloc::Global;
 
@@ -86,6 +88,35 @@ fn has_extended<S: Alter>(
     is_in_older(conn, grant.session, opened, grant.number)
 }
 
+/// Reads the row of the session with this number. Fails with `ForeignRow` if it is missing.
+fn read_row_of_session<S: Alter>(
+    conn: &mut Connection<S>,
+    number: u64,
+) -> Result<SessionValue, RowError>
+    ensures device { IfOk result (λ row. IsDevice row.device) }
+    ensures reads { ReadsHistory S.Store conn.old conn.new result
+        (λ h row. IsRowOf h row × (row.number ≡ number)) }
+{
+    if number >= LIMIT {
+        return Err(RowError::ForeignRow);
+    }
+    match read_session_row(conn, number)? {
+        Some(row) => Ok(row),
+        None => Err(RowError::ForeignRow),
+    }
+}
+
+/// Returns whether a session is open at the time `t`, by its row alone: it is not closed, has not ended, and
+/// something remains of its allowance.
+fn is_open_row(row: &SessionValue, t: Moment) -> bool
+    ensures { (h : History) (s : Session) → IsRowOf h row.now → Some s ≡ session_of h row.now.number
+        → result ≡ is_open_at t s }
+{
+    row.closed.is_none()
+        && row.ends.is_none_or(|ends| t < ends)
+        && row.remaining.is_none_or(|left| left > 0)
+}
+
 /// Makes a redemption, as it is at the time `t`, from its row. Fails with `ForeignRow` if its session is
 /// missing.
 fn redemption_of_row<S: Alter>(
@@ -96,15 +127,13 @@ fn redemption_of_row<S: Alter>(
     ensures { ReadsHistory S.Store conn.old conn.new result (λ h redemption. IsGrantOf h grant.now
         → Some redemption ≡ redemption_numbered h t grant.now.number) }
 {
-    let Some(session) = read_session(conn, grant.session)? else {
-        return Err(RowError::ForeignRow);
-    };
+    let session = read_row_of_session(conn, grant.session)?;
     let extended = has_extended(conn, grant, session.opened)?;
     Ok(Redemption {
         at: grant.moment,
         device: session.device,
         extended,
-        is_open: is_open(&session, t),
+        is_open: is_open_row(&session, t),
         session: grant.session,
     })
 }
