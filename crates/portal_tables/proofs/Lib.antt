@@ -4,6 +4,7 @@ pub mod AttachedLemmas
 pub mod AuditShown
 pub mod BatchLemmas
 pub mod CountersShown
+pub mod GivenLemmas
 pub mod InOrder
 pub mod Joining
 pub mod KeptLemmas

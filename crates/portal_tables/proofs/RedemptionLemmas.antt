@@ -45,7 +45,7 @@ pub ends_itself : (gs : List Grant) → Ends gs gs
 ends_itself [] = refl
 ends_itself (g ∷ gs) = inl refl
 
-ends_rest : (gs : List Grant) (g : Grant) (tail : List Grant) → Ends gs (g ∷ tail) → Ends gs tail
+pub ends_rest : (gs : List Grant) (g : Grant) (tail : List Grant) → Ends gs (g ∷ tail) → Ends gs tail
 ends_rest [] g tail e = absurd (cc)
 ends_rest (x ∷ gs) g tail (inl same) =
     let rest : tail ≡ gs = cc in inr (subst (Ends gs) (sym rest) (ends_itself gs))
@@ -153,7 +153,7 @@ module _ (gs : List Grant) (row : GrantValue) (it : IsRowAt gs row) where
   number_is : row.number ≡ length it.before + 1
   number_is = ap (λ (r : GrantRow). r.number) it.is
 
-  session_is : row.session ≡ it.grant.session
+  pub session_is : row.session ≡ it.grant.session
   session_is = ap (λ (r : GrantRow). r.session) it.is
 
   moment_is : row.moment ≡ it.grant.at
@@ -162,7 +162,7 @@ module _ (gs : List Grant) (row : GrantValue) (it : IsRowAt gs row) where
   found_is : grant_numbered gs row.number ≡ Some (it.grant, it.before)
   found_is = ap (grant_numbered gs) number_is ∙ numbered gs it.grant it.before it.ends
 
-  before_is : grants_below gs row.number ≡ it.before
+  pub before_is : grants_below gs row.number ≡ it.before
   before_is = ap (grants_below gs) number_is ∙ below_is gs it.before (ends_rest gs it.grant it.before it.ends)
 
   more_is : grants_below gs (row.number + 1) ≡ it.grant ∷ it.before

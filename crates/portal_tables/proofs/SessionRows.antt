@@ -5,7 +5,7 @@ use Rattle.portal_tables.proofs.Common.{History, Grant, Session, grants_of, memb
 use Rattle.portal_tables.proofs.Common.{openings, IsFirst, openings_first, session_at, session_opened}
 use Rattle.portal_tables.proofs.Common.{SessionRow, TotalRow, sessions_of, remaining_of}
 use Rattle.portal_tables.proofs.Common.{SessionValue, session_read, session_total, session_kept, IsRowOf}
-use Rattle.portal_model.specs.History.{closed_of, used_of}
+use Rattle.portal_model.specs.History.{used_of}
 use Rattle.portal_model.specs.Redemptions.{is_found_open, is_in_session}
 use Rattle.portal_model.specs.Rows.{row_of_opening, total_of_opening}
 use Rattle.portal_model_laws.proofs.Basics.{some-same}

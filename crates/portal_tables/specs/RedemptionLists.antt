@@ -1,16 +1,17 @@
 -- The redemptions of a history by their numbers, which begin with 1 for the oldest.
-use Rattle.std.specs.Prelude.{◌≡◌, ◌+◌, ℕ, cond, nat_eq, nat_lt, List, [], ◌∷◌, length, map, Option, Some}
-use Rattle.std.specs.Prelude.{None}
+use Rattle.std.specs.Prelude.{◌≡◌, ◌⊎◌, ◌+◌, ℕ, cond, nat_eq, nat_lt, List, [], ◌∷◌, length, map, Option}
+use Rattle.std.specs.Prelude.{Some, None}
 use Rattle.std.specs.Prelude.{option_map}
 use Rattle.sqlite_rules.specs.Lists.{Has}
 use Rattle.portal_model.specs.History.{History, Grant, grants_of, session_of}
 use Rattle.portal_model.specs.Redemptions.{redemption_after}
-use Rattle.portal_model.specs.Rows.{grant_rows}
+use Rattle.portal_model.specs.Rows.{grant_rows, remaining_of}
 use Rattle.portal_model.specs.declared.record.Session.{Session}
 use Rattle.portal_model.specs.declared.redemptions.Redemption.{Redemption}
 use Rattle.portal_tables.specs.HoldsLedger.{grant_kept}
 use Rattle.portal_tables_rows.specs.Sums.{grant_read}
 use Rattle.portal_tables_rows.specs.declared.grants.GrantValue.{GrantValue}
+use Rattle.portal_tables_rows.specs.declared.rows.SessionValue.{SessionValue}
 
 -- the redemption with that number, and those before it
 abbrev pub grant_numbered : List Grant → ℕ → Option (Grant × List Grant)
@@ -38,3 +39,8 @@ AreGrantsOf h rows = (row : GrantValue) → Has rows row → IsGrantOf h row
 -- there is a session with that number, and it was opened at t
 abbrev pub IsOpenedAt : History → ℕ → ℕ → Type 0
 IsOpenedAt h number t = (s : Session) × (session_of h number ≡ Some s) × (s.opened ≡ t)
+
+-- by the session's end and what remains of it, the redemption gave all of its seconds, or all of its bytes
+abbrev pub GivesAll : GrantValue → SessionValue → Type 0
+GivesAll grant session = (session.ends ≡ Some (session.opened + grant.seconds))
+    ⊎ (session.remaining ≡ remaining_of session.used (Some grant.bytes))

@@ -1,6 +1,6 @@
 //! Reads the last redemptions of a voucher.
 
-ghost use Rattle.std.specs.Prelude.{◌≡◌, ◌<◌, ◌≤◌, ◌^◌, Some, IfOk, map};
+ghost use Rattle.std.specs.Prelude.{◌≡◌, ◌↔◌, ◌<◌, ◌≤◌, ◌^◌, true, Some, IfOk, map};
 ghost use Rattle.std.specs.List.{filter_map};
 ghost use Rattle.portal_model.specs.Device.{IsDevice};
 ghost use Rattle.portal_model.specs.History.{History, grants_of, is_open_at, session_of};
@@ -13,6 +13,7 @@ ghost use Rattle.portal_model.specs.declared.record.Session.{Session};
 ghost use Rattle.portal_tables.specs.HoldsLedger.{IsRowOf, ReadsHistory};
 ghost use Rattle.portal_tables.specs.RedemptionLists.{
   AreGrantsOf,
+  GivesAll,
   IsGrantOf,
   IsOpenedAt,
   grants_below,
@@ -68,24 +69,41 @@ fn is_in_older<S: Alter>(
     Ok(false)
 }
 
-/// Reads whether a redemption extended its session, which was opened at this time: whether an older one is in
-/// the session. Of a redemption after that time the one that opened the session is older.
+/// Returns whether a redemption gave its session all of its seconds or all of its bytes, by the session's row.
+fn has_given_all(grant: &GrantValue, session: &SessionValue) -> bool
+    ensures { result ≡ true ↔ GivesAll grant.now session.now }
+{
+    session.ends.is_some_and(|ends| {
+        u128::from(ends.get()) == u128::from(session.opened.get()) + u128::from(grant.seconds)
+    }) || session.remaining.is_some_and(|left| {
+        i128::from(left) + i128::from(session.used) == i128::from(grant.bytes)
+    })
+}
+
+/// Reads whether a redemption extended its session: whether an older one is in the session. Of a redemption
+/// after the time at which the session was opened, the one that opened it is older. A redemption that gave all
+/// seconds or all bytes has no older one: the redemption that opened the session gave more than 0 of what the
+/// session limits, so with it the sum would be greater. Only for the others the redemptions before are read.
 fn has_extended<S: Alter>(
     conn: &mut Connection<S>,
     grant: &GrantValue,
-    opened: Moment,
+    session: &SessionValue,
 ) -> Result<bool, RowError>
     ensures { ReadsHistory S.Store conn.old conn.new result (λ h extended. IsGrantOf h grant.now
-        → IsOpenedAt h grant.now.session opened
+        → IsRowOf h session.now → session.now.number ≡ grant.now.session
         → extended ≡ is_in_session grant.now.session (grants_below (grants_of h) grant.now.number)) }
 {
     if grant.number >= LIMIT {
         return Err(RowError::ForeignRow);
     }
-    if grant.moment > opened {
+    if grant.moment > session.opened {
         return Ok(true);
     }
-    is_in_older(conn, grant.session, opened, grant.number)
+    if has_given_all(grant, session) {
+        Ok(false)
+    } else {
+        is_in_older(conn, grant.session, session.opened, grant.number)
+    }
 }
 
 /// Reads the row of the session with this number. Fails with `ForeignRow` if it is missing.
@@ -128,7 +146,7 @@ fn redemption_of_row<S: Alter>(
         → Some redemption ≡ redemption_numbered h t grant.now.number) }
 {
     let session = read_row_of_session(conn, grant.session)?;
-    let extended = has_extended(conn, grant, session.opened)?;
+    let extended = has_extended(conn, grant, &session)?;
     Ok(Redemption {
         at: grant.moment,
         device: session.device,
