@@ -1,16 +1,16 @@
 -- The result of each SELECT of a list, by the rows that the tables hold.
 use Rattle.portal_tables_rows.proofs.Common.{◌≡◌, ◌<◌, ℕ, List, [], ◌∷◌, ◌++◌, Bool, map, filter, length}
-use Rattle.portal_tables_rows.proofs.Common.{true, false, refl, sym, ap, ap₂, subst, ◌∙◌, lit<, bytes_eq}
+use Rattle.portal_tables_rows.proofs.Common.{false, refl, sym, ap, ap₂, subst, ◌∙◌, lit<, bytes_eq}
 use Rattle.portal_tables_rows.proofs.Common.{Ordering, Key, then-Equal, value_cmp-Text, Text, Row}
 use Rattle.portal_tables_rows.proofs.Common.{column, value_cmp, Schema, Table, Term, State, Shown, understood}
 use Rattle.portal_tables_rows.proofs.Common.{means_simple, key_tests, map-map, filter-map, number, has_key}
 use Rattle.portal_tables_rows.proofs.Common.{by_column, fields, IsSelection, text_test, selected, field_at}
-use Rattle.portal_tables_rows.proofs.Common.{orders_by, by, passes, keys_of, VoucherRow, vouchers, sessions}
-use Rattle.portal_tables_rows.proofs.Common.{Contents, total_cells, Holds, HasTables, WholeVoucher}
-use Rattle.portal_tables_rows.proofs.Common.{whole_voucher_cells, whole_session_cells, total_of}
+use Rattle.portal_tables_rows.proofs.Common.{orders_by, by, passes, keys_of, VoucherRow, vouchers}
+use Rattle.portal_tables_rows.proofs.Common.{Contents, Holds, HasTables, WholeVoucher}
+use Rattle.portal_tables_rows.proofs.Common.{whole_voucher_cells}
 use Rattle.portal_tables_rows.proofs.Common.{ListsAs, is_within, by_place, by_refund, by_sale}
 use Rattle.portal_tables_rows.proofs.Common.{sale_columns, sale_cells, IsSimple}
-use Rattle.portal_tables_rows.proofs.Cells.{vouchers_in, sessions_in}
+use Rattle.portal_tables_rows.proofs.Cells.{vouchers_in}
 use Rattle.portal_tables_sql.proofs.SelectTexts.{voucher_columns}
 use Rattle.std.specs.Ordering.{ordering_then}
 use Rattle.sqlite.specs.Query.{key_cmp}

@@ -1,9 +1,9 @@
 -- From the rows of a result to the values that were read of them, in their order.
-use Rattle.portal_tables_rows.proofs.Common.{◌≡◌, ◌+◌, ◌<◌, arith, ℕ, pos, List, [], ◌∷◌, ◌++◌, map, filter}
-use Rattle.portal_tables_rows.proofs.Common.{take, length, get_or, cond, Bool, true, false, ◌&&◌, nat_le}
+use Rattle.portal_tables_rows.proofs.Common.{◌≡◌, ◌+◌, arith, ℕ, pos, List, [], ◌∷◌, map, filter}
+use Rattle.portal_tables_rows.proofs.Common.{take, Bool, true, false, ◌&&◌, nat_le}
 use Rattle.portal_tables_rows.proofs.Common.{Option, Some, None, refl, sym, ap, ap₂, subst, ◌∙◌, Ordering}
 use Rattle.portal_tables_rows.proofs.Common.{nat_cmp, is_ge, is_le, IsSorted, nat_tests, ints, get_or-map}
-use Rattle.portal_tables_rows.proofs.Common.{length-map, map-append, filter-append, Null, Row, value_cmp, Ge}
+use Rattle.portal_tables_rows.proofs.Common.{length-map, Null, Row, value_cmp, Ge}
 use Rattle.portal_tables_rows.proofs.Common.{Le, Binary, value_cmp-Int, value_cmp-Null, value_cmp-apart}
 use Rattle.portal_tables_rows.proofs.Common.{map-map, filter-map, pull_back, number, or_null, IsSelection}
 use Rattle.portal_tables_rows.proofs.Common.{columns, Lists, ListsAs, is_within}

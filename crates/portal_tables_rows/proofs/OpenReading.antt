@@ -1,17 +1,17 @@
 -- The result of the SELECT of the open sessions, by the rows that the tables hold.
 use Rattle.portal_tables_rows.proofs.Common.{◌≡◌, ◌<◌, ℕ, ℤ, pos, List, [], ◌∷◌, Bool, true, false, ◌&&◌}
-use Rattle.portal_tables_rows.proofs.Common.{nat_lt, nat_cmp, map, filter, length, Option, Some, None, refl}
+use Rattle.portal_tables_rows.proofs.Common.{nat_lt, map, filter, length, Option, Some, None, refl}
 use Rattle.portal_tables_rows.proofs.Common.{sym, ap, ap₂, ◌∙◌, arith, lit<, ints, nat_tests, Null, Int, Row}
 use Rattle.portal_tables_rows.proofs.Common.{Value, column, value_cmp, value_cmp-Int, value_cmp-apart}
 use Rattle.portal_tables_rows.proofs.Common.{value_cmp-Null, Schema, Table, State, Shown, understood, Binary}
-use Rattle.portal_tables_rows.proofs.Common.{means_simple, filter-map, map-map, number, or_null, fields}
-use Rattle.portal_tables_rows.proofs.Common.{field_at, passes, all_columns, shown_of, sessions, Contents}
+use Rattle.portal_tables_rows.proofs.Common.{means_simple, filter-map, number, or_null, fields}
+use Rattle.portal_tables_rows.proofs.Common.{field_at, passes, all_columns, sessions, Contents}
 use Rattle.portal_tables_rows.proofs.Common.{signed_or_null, Holds, HasTables, WholeSession, IsSimple}
 use Rattle.portal_tables_rows.proofs.Common.{whole_session_cells, is_open_row, AreOwn, IsOwnWholeSession}
 use Rattle.portal_tables_rows.proofs.Common.{has_filtered}
 use Rattle.portal_tables_rows.specs.Lists.{is_left}
 use Rattle.portal_tables_rows.proofs.Cells.{sessions_in}
-use Rattle.portal_tables_rows.proofs.Listing.{and_true, number_order, option_order, truth_back}
+use Rattle.portal_tables_rows.proofs.Listing.{and_true, truth_back}
 use Rattle.portal_tables_rows.proofs.PageReading.{or_back}
 use Rattle.portal_tables_sql.proofs.ListTexts as texts
 use Rattle.portal_tables_sql.proofs.SelectTexts.{session_columns}

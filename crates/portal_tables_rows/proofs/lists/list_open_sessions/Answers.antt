@@ -1,5 +1,5 @@
 use Rattle.portal_tables_rows.proofs.Common.{◌<◌, ◌^◌, w64, map, filter, refl, arith, to_z_pos, map-map}
-use Rattle.portal_tables_rows.proofs.Common.{WholeSession, whole_session_cells, whole_session_read}
+use Rattle.portal_tables_rows.proofs.Common.{whole_session_cells, whole_session_read}
 use Rattle.portal_tables_rows.proofs.Common.{IsOwnWholeSession, is_open_row}
 use Rattle.portal_tables_rows.proofs.Cells.{exact_whole_session}
 use Rattle.portal_tables_rows.proofs.ManyValues.{own_sessions, reads_many, tells_whole}

@@ -1,4 +1,5 @@
-use Rattle.portal_tables_rows.proofs.Common.{refl, sym, subst, ◌∙◌, All, All-push, arith, rules, err_from_is_err_and, state, HasCleanDisk}
+use Rattle.portal_tables_rows.proofs.Common.{refl, ◌∙◌, All-push, arith, rules, err_from_is_err_and, state}
+use Rattle.portal_tables_rows.proofs.Common.{HasCleanDisk}
 use Rattle.portal_tables_rows.proofs.Common.{columns, looks_read}
 use Rattle.sqlite.specs.Values.{bound}
 use Rattle.portal_tables_sql.specs.Asks.{Asks}
