@@ -1,5 +1,5 @@
 -- From what the readers list to the lists of the history: the codes of a batch, and the open sessions.
-use Rattle.portal_tables.proofs.Common.{◌≡◌, inl, inr, ℕ, pos, ◌-ℤ◌, List, [], ◌∷◌, map, filter, Bool}
+use Rattle.portal_tables.proofs.Common.{◌≡◌, inl, inr, ℕ, pos, ◌-ℤ◌, List, [], ◌∷◌, map, filter}
 use Rattle.portal_tables.proofs.Common.{◌&&◌, is_none, Option, Some, None, All, refl, sym, ap, ap₂}
 use Rattle.portal_tables.proofs.Common.{subst, ◌∙◌, arith, bytes_eq, nat_lt, AllByRecursion}
 use Rattle.portal_tables.proofs.Common.{range_with_len, IsPermutation, nat_tests, ints, All-head, All-tail}

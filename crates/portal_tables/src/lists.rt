@@ -18,8 +18,8 @@ use portal_tables_rows::whole::{read_all_batches, read_all_plans};
 use sqlite::{Alter, Connection};
 use std::alloc::Global;
 
-/// Reads the sessions that are open at the time `t`, ordered by number. It reads all plans once, and no row
-/// of another session.
+/// Reads the sessions that are open at the time `t`, ordered by number. It reads all plans once, and looks
+/// no session up by its number.
 pub(crate) fn read_open_sessions<S: Alter>(
     alloc: Global,
     conn: &mut Connection<S>,

@@ -1,4 +1,4 @@
-use Rattle.portal_tables.proofs.Common.{All, List, map, ap, sym, subst, ◌∙◌, fails_weaker, reads_then}
+use Rattle.portal_tables.proofs.Common.{All, map, ap, sym, subst, ◌∙◌, fails_weaker, reads_then}
 use Rattle.portal_tables.proofs.Common.{reads_weaker, HasFirst, HasTables, first_there, session_of, IsRowOf}
 use Rattle.portal_tables.proofs.Common.{SessionValue}
 use Rattle.portal_tables.proofs.ShownLemmas.{made_fails, next_fails, of_first, of_rows, read_fails, shown_as}

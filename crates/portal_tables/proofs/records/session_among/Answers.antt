@@ -1,4 +1,4 @@
-use Rattle.portal_tables.proofs.Common.{◌∙◌, List, Some, IfOk-weaker, ap, sym, Plan, plan_among}
+use Rattle.portal_tables.proofs.Common.{◌∙◌, List, IfOk-weaker, ap, sym, Plan, plan_among}
 use Rattle.portal_model_laws.proofs.Plans.{plan_is_row}
 use Rattle.portal_tables.proofs.records.session_among.Goals as goal
 
