@@ -1,4 +1,4 @@
-# Read by portal, tools/build, tools/ship and tests/shipped: the sum of the sources, the shipped program, and the
+# Read by portal, tools/portal_runner, tools/ship and tests/shipped: the sum of the sources, the shipped program, and the
 # one that was built here.
 # The reader has set top, the repository's folder.
 : "${top:?}"

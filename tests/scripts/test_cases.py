@@ -1,17 +1,16 @@
-#!/usr/bin/env python3
-"""Tries tests/cases/run with a stand-in for the program: a case that holds, cases with one value changed, a program that
-errs in one field, and files that break the format. The last line is 'cases-script: N passed, M failed'."""
+"""Tries tests/cases/run with a stand-in for the program: a case that holds, cases with one value changed, a program that errs in one
+field, and files that break the format."""
 
 from __future__ import annotations
 
 import os
 import shutil
 import subprocess
-import sys
 import tempfile
+import unittest
 from pathlib import Path
 
-CASES = Path(__file__).resolve().parent / "cases"
+from small_tree import TOP, put
 
 # It answers each request with the captive state, changed as the environment says; `check` prints ok.
 PROGRAM = r"""#!/usr/bin/env python3
@@ -114,55 +113,45 @@ BAD = [
 ]
 
 
-class Trial:
+PASSES, FAILS = "cases: 1 passed, 0 failed\n", "cases: 0 passed, 1 failed\n"
+
+
+class Cases(unittest.TestCase):
     """A folder with the runner, the stand-in and one case."""
 
-    def __init__(self, folder: Path) -> None:
-        self.folder, self.passed, self.failed = folder, 0, 0
+    def setUp(self) -> None:
+        folder = tempfile.TemporaryDirectory(prefix="scripts-")
+        self.addCleanup(folder.cleanup)
+        self.folder = Path(folder.name)
         for name in ("run", "reader.py", "runner.py"):
-            shutil.copy(CASES / name, folder / name)
-        self.program = folder / "program"
-        self.program.write_text(PROGRAM, encoding="utf-8")
-        self.program.chmod(0o755)
+            shutil.copy(TOP / "tests/cases" / name, self.folder / name)
+        self.program = put(self.folder / "program", PROGRAM)
 
-    def run(self, text: str, *words: str, **changes: str) -> tuple[int, str]:
+    def expect(self, what: str, text: str, code: int, parts: list[str], *words: str, **changes: str) -> None:
         (self.folder / "good.txt").write_text(text, encoding="utf-8")
         call = [str(self.folder / "run"), str(self.program), *words]
-        done = subprocess.run(call, capture_output=True, text=True, check=False, env=os.environ | changes)
-        return done.returncode, done.stdout + done.stderr
+        ran = subprocess.run(call, capture_output=True, text=True, env=os.environ | changes)
+        said = ran.stdout + ran.stderr
+        with self.subTest(what):
+            self.assertEqual((ran.returncode, [it for it in parts if it not in said]), (code, []), said)
 
-    def expect(self, what: str, came: tuple[int, str], code: int, parts: list[str]) -> None:
-        missing = [part for part in parts if part not in came[1]]
-        if came[0] == code and not missing:
-            self.passed += 1
-            return
-        self.failed += 1
-        print(f"{what}: expected exit {code} and {missing or parts}, came exit {came[0]}:\n{came[1]}")
+    def test_a_case_that_holds(self) -> None:
+        self.expect("a case that holds", GOOD, 0, [PASSES])
+        for lines in COVERED:
+            self.expect(f"the output {lines!r}", GOOD.replace("    ok", lines), 0, [PASSES])
 
+    def test_only(self) -> None:
+        self.expect("--only", GOOD, 0, [PASSES], "--only", "good")
+        self.expect("--only of no case", GOOD, 2, ["no case: bad"], "--only", "bad")
 
-def try_all(trial: Trial) -> None:
-    passes, fails = "cases: 1 passed, 0 failed\n", "cases: 0 passed, 1 failed\n"
-    trial.expect("a case that holds", trial.run(GOOD), 0, [passes])
-    for lines in COVERED:
-        trial.expect(f"the output {lines!r}", trial.run(GOOD.replace("    ok", lines)), 0, [passes])
-    trial.expect("--only", trial.run(GOOD, "--only", "good"), 0, [passes])
-    trial.expect("--only of no case", trial.run(GOOD, "--only", "bad"), 2, ["no case: bad"])
-    for old, new, parts in CHANGES:
-        trial.expect(f"{old} changed to {new}", trial.run(GOOD.replace(old, new, 1)), 1, [*parts, fails])
-    for change, code, part in ERRORS:
-        came = trial.run(GOOD, CHANGE=change, CODE=code)
-        trial.expect(f"a program with {change} and {code}", came, 1, ["good.txt:6", part, fails])
-    for text, line, part in BAD:
-        trial.expect(f"the file {text!r}", trial.run(text), 1, [f"good.txt:{line}\n", part, fails])
+    def test_changes(self) -> None:
+        for old, new, parts in CHANGES:
+            self.expect(f"{old} changed to {new}", GOOD.replace(old, new, 1), 1, [*parts, FAILS])
 
+    def test_errors_of_the_program(self) -> None:
+        for change, code, part in ERRORS:
+            self.expect(f"{change} and {code}", GOOD, 1, ["good.txt:6", part, FAILS], CHANGE=change, CODE=code)
 
-def main() -> int:
-    with tempfile.TemporaryDirectory() as folder:
-        trial = Trial(Path(folder))
-        try_all(trial)
-    print(f"cases-script: {trial.passed} passed, {trial.failed} failed")
-    return 1 if trial.failed else 0
-
-
-if __name__ == "__main__":
-    sys.exit(main())
+    def test_bad_files(self) -> None:
+        for text, line, part in BAD:
+            self.expect(f"the file {text!r}", text, 1, [f"good.txt:{line}\n", part, FAILS])

@@ -1,13 +1,13 @@
-#!/usr/bin/env python3
-"""Tries tools/count on a small repository, of which each figure was counted by hand. The last line is
-'count-script: N passed, M failed'."""
+"""Tries tools/count on a small repository, of which each figure was counted by hand."""
 
-import pathlib
+from __future__ import annotations
+
 import subprocess
-import sys
 import tempfile
+import unittest
+from pathlib import Path
 
-TOP = pathlib.Path(__file__).resolve().parent.parent
+from small_tree import TOP
 
 # 111 characters; 110 characters in 216 bytes; 135 characters
 LONG, AT_THE_LIMIT, LONG_USE = f"//! {'a' * 107}\n", f"//! {'ö' * 106}\n", f"ghost use Low.{'a' * 120};\n"
@@ -89,41 +89,35 @@ WANTED = """\
 """
 
 
-def call(folder, *words):
-    """The status, and what it prints, in a folder."""
-    ran = subprocess.run([TOP / "tools/count", *words], cwd=folder, capture_output=True, text=True)
-    return ran.returncode, ran.stdout
+class Count(unittest.TestCase):
+    def setUp(self) -> None:
+        folder = tempfile.TemporaryDirectory(prefix="scripts-")
+        self.addCleanup(folder.cleanup)
+        self.folder, self.tree = Path(folder.name), Path(folder.name) / "tree"
+        self.put({f"crates/{name}": text for name, text in FILES.items()} | SCRIPTS)
 
-
-def main():
-    results = []
-
-    def expect(what, found, wanted):
-        results.append(found == wanted)
-        if found != wanted:
-            print(f"count-script: {what}:\n  expected: {wanted}\n  found: {found}")
-
-    with tempfile.TemporaryDirectory(prefix="count-script-") as folder:
-        top = pathlib.Path(folder, "tree")
-        for name, text in [*((f"crates/{name}", text) for name, text in FILES.items()), *SCRIPTS.items()]:
-            file = top / name
+    def put(self, files: dict[str, str]) -> None:
+        for name, text in files.items():
+            file = self.tree / name
             file.parent.mkdir(parents=True, exist_ok=True)
             file.write_text(text, encoding="utf-8")
-        expect("no line that is too long", call(top, "--long"), (0, ""))
-        expect("a folder that is named", call("/", str(top)), (0, WANTED))
-        expect("the folder that it is called in", call(top), (0, WANTED))
-        expect("a folder further down", call(top / "crates/low/src"), (0, WANTED))
-        expect("a folder without crates", call(top, folder), (2, ""))
-        expect("a working directory without crates", call(folder), (2, ""))
-        expect("an unknown option", call(top, "--all"), (2, ""))
-        for name, text in LONG_LINES.items():
-            file = top / "crates" / name
-            file.parent.mkdir(parents=True, exist_ok=True)
-            file.write_text(text, encoding="utf-8")
-        expect("lines that are too long", call("/", "--long", str(top)), (1, LONG_WANTED))
-    print(f"count-script: {sum(results)} passed, {len(results) - sum(results)} failed")
-    return 0 if all(results) else 1
 
+    def count(self, folder: Path, *words: str) -> tuple[int, str]:
+        """The status, and what it prints, in a folder."""
+        ran = subprocess.run([TOP / "tools/count", *words], cwd=folder, capture_output=True, text=True)
+        return ran.returncode, ran.stdout
 
-if __name__ == "__main__":
-    sys.exit(main())
+    def test_figures(self) -> None:
+        self.assertEqual(self.count(Path("/"), str(self.tree)), (0, WANTED), "a folder that is named")
+        self.assertEqual(self.count(self.tree), (0, WANTED), "the folder that it is called in")
+        self.assertEqual(self.count(self.tree / "crates/low/src"), (0, WANTED), "a folder further down")
+
+    def test_no_crates(self) -> None:
+        self.assertEqual(self.count(self.tree, str(self.folder)), (2, ""))
+        self.assertEqual(self.count(self.folder), (2, ""))
+        self.assertEqual(self.count(self.tree, "--all"), (2, ""), "an unknown option")
+
+    def test_long_lines(self) -> None:
+        self.assertEqual(self.count(self.tree, "--long"), (0, ""))
+        self.put({f"crates/{name}": text for name, text in LONG_LINES.items()})
+        self.assertEqual(self.count(Path("/"), "--long", str(self.tree)), (1, LONG_WANTED))

@@ -1,0 +1,80 @@
+"""Processes in groups of their own, so that each can be stopped with all that it started."""
+
+from __future__ import annotations
+
+import os
+import resource
+import signal
+import subprocess
+import threading
+import time
+from pathlib import Path
+from typing import IO, Any
+
+TRIES = 100
+
+
+class Groups:
+    """The groups that run now. All can be stopped at once."""
+
+    def __init__(self) -> None:
+        self.running: dict[int, subprocess.Popen[str]] = {}
+        self.is_stopped, self.lock = False, threading.RLock()
+
+    def start(self, words: list[str], **more: Any) -> subprocess.Popen[str]:
+        """Begins a command, with no input unless one is given. After a stop nothing begins any more."""
+        more = {"stdin": subprocess.DEVNULL, "stderr": subprocess.STDOUT} | more
+        with self.lock:
+            if self.is_stopped:
+                raise InterruptedError("stopped")
+            process: subprocess.Popen[str]
+            process = subprocess.Popen(words, process_group=0, text=True, errors="replace", **more)
+            self.running[process.pid] = process
+        return process
+
+    def wait(self, process: subprocess.Popen[str]) -> tuple[int, resource.struct_rusage]:
+        """How it ended, as a shell says it, and what it used with all that it waited for."""
+        try:
+            _, status, used = os.wait4(process.pid, 0)
+        except ChildProcessError:  # (after a stop somebody else has seen its end)
+            status, used = signal.SIGTERM, resource.struct_rusage((0,) * 16)
+        code = os.waitstatus_to_exitcode(status)
+        process.returncode = code
+        self.running.pop(process.pid, None)
+        return (128 - code if code < 0 else code), used
+
+    def kill(self, process: subprocess.Popen[str], number: int = signal.SIGTERM) -> None:
+        try:
+            os.killpg(process.pid, number)
+        except ProcessLookupError:
+            pass
+
+    def stop(self) -> None:
+        """Stops all, and waits until they have ended, but not for long."""
+        with self.lock:
+            self.is_stopped = True
+        for process in list(self.running.values()):
+            self.kill(process)
+        for _ in range(TRIES):
+            self.running = {number: it for number, it in list(self.running.items()) if it.poll() is None}
+            if not self.running:
+                return
+            time.sleep(0.1)
+
+
+def run(groups: Groups, words: list[str], out: Path, **more: Any) -> int:
+    """Runs a command with what it says in a file. One that cannot be begun says so there."""
+    file: IO[str]
+    with out.open("w", encoding="utf-8") as file:
+        try:
+            process = groups.start(words, stdout=file, **more)
+        except OSError as fault:
+            if isinstance(fault, InterruptedError):
+                raise
+            file.write(f"{words[0]}: {fault.strerror}\n")
+            return 126
+        return groups.wait(process)[0]
+
+
+def seconds(since: float) -> int:
+    return int(time.monotonic() - since)
