@@ -134,7 +134,7 @@ class SmallTree(unittest.TestCase):
     def wait_for(self, name: str) -> None:
         """Until a stand-in has written this down, but not for ever."""
         for _ in range(600):
-            if (self.fake / name).exists():
+            if (self.fake / name).exists() and (self.fake / name).read_text():
                 return
             time.sleep(0.05)
         self.fail(f"nothing was written to {name}")

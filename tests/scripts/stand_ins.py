@@ -112,7 +112,8 @@ class StandIns(unittest.TestCase):
         """Whether the process runs whose number a stand-in has written to this file."""
         for _ in range(100):
             try:
-                state = (Path("/proc") / (self.tree / "did" / name).read_text().strip() / "stat").read_text()
+                number = int((self.tree / "did" / name).read_text())
+                state = Path(f"/proc/{number}/stat").read_text()
             except OSError:
                 return False
             if state.rpartition(")")[2].split()[0] == "Z":
@@ -121,8 +122,10 @@ class StandIns(unittest.TestCase):
         return True
 
     def wait_for(self, name: str) -> None:
+        """Until a stand-in has written something there."""
+        file = self.tree / "did" / name
         for _ in range(600):
-            if (self.tree / "did" / name).exists():
+            if file.exists() and file.read_text():
                 return
             time.sleep(0.05)
         self.fail(f"there is no did/{name}")

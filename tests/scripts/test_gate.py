@@ -44,7 +44,9 @@ class Trials(StandIns):
         self.assertNotIn("4 passed, 0 failed", self.said, "the last line of a part is not passed on")
 
     def test_a_crate_is_named_once_it_is_proved(self) -> None:
+        """Those that rt does not name are named when it has ended."""
         named = f"'{self.tree}/did/named'"
+        (self.tree / "crates.txt").write_text("low:\nportal: low\nquiet: low\n")
         self.does("tests-edits", TEXTS, "while read -r name; do echo $name >>did/named; done", "sort -u did/named | xargs",
                   "echo 'low/one: refused: a line'", "echo '1 passed, 0 failed'")
         self.does("rt-begins", f"sleep 0.5; [[ ! -s {named} ]] || echo 'a crate was named too early'")
@@ -52,7 +54,7 @@ class Trials(StandIns):
         self.gate()
         self.assert_ended(0, "10 passed, 0 failed")
         self.assertNotIn("a crate was named too early", self.said)
-        self.assert_said("low portal")
+        self.assert_said("low portal quiet")
 
     def test_its_priority(self) -> None:
         lowest = min(19, os.getpriority(os.PRIO_PROCESS, 0) + 15)

@@ -9,6 +9,7 @@ import re
 import signal
 import tempfile
 import threading
+import time
 import unittest
 from collections.abc import Callable
 from pathlib import Path
@@ -281,23 +282,24 @@ class Long(Small):
 
     def test_side_by_side(self) -> None:
         """With four processors labs, mutants and Debians; with three the last two; the gate beside all of them."""
-        for processors, wanted in ((4, [{"labs", "mutants", "debians"}]), (3, [{"labs"}, {"mutants", "debians"}]),
-                                   (2, [{"labs"}, {"mutants"}, {"debians"}])):
+        for processors, wanted in ((4, "debians labs mutants"), (3, "debians mutants"), (2, "")):
             run = FakeRun(self.room, Options(), processors)
-            seen: list[set[str]] = []
+            running: set[str] = set()
+            seen: set[str] = set()
             lock = threading.Lock()
-            barriers = {frozenset(it): threading.Barrier(len(it)) for it in wanted}
 
-            def meet(names: list[str]) -> None:
+            def note(names: list[str]) -> None:
                 with lock:
-                    if not seen or len(seen[-1]) == len(wanted[len(seen) - 1]):
-                        seen.append(set())
-                    seen[-1].add(names[0])
-                barriers[frozenset(wanted[len(seen) - 1])].wait(5)
+                    running.add(names[0])
+                    if len(running) > 1:
+                        seen.add(" ".join(sorted(running)))
+                time.sleep(0.4)
+                with lock:
+                    running.remove(names[0])
 
-            setattr(run, "run_in_order", meet)
+            setattr(run, "run_in_order", note)
             run.run_lanes(LongParts(["labs"], ["mutants"], ["debians"]))
-            self.assertEqual(seen, wanted, f"{processors} processors")
+            self.assertEqual(max(seen, key=len, default=""), wanted, f"{processors} processors")
 
     def test_the_gate_beside_the_others(self) -> None:
         run, together = FakeRun(self.room, Options(), 2), threading.Barrier(2)

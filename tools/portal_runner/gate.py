@@ -19,7 +19,7 @@ from pathlib import Path
 from typing import Any
 
 from . import crates
-from .processes import Groups
+from .processes import Groups, print_all
 from .progress import Progress
 from .results import COUNTS, OVER
 
@@ -29,6 +29,13 @@ TRIED = re.compile(r"([A-Za-z0-9_]+)/[^:]*: (?:refused|proved|FAILED)")
 BUILT, TESTS = "crates/portal/out/portal", "crates/portal_tests/out/portal_tests_tests"
 SHIPPED = "dist/x86_64-linux/portal"
 NICE_OF_PROOFS, NICE_OF_MUTANTS = 5, 15
+LOCK = threading.Lock()
+
+
+def say(*lines: str) -> None:
+    """Prints whole lines: proofs and mutants both do."""
+    with LOCK:
+        print(*lines, sep="\n", flush=True)
 
 
 class Failed(Exception):
@@ -70,14 +77,14 @@ class Stage:
         is_said = True
         for row in self.process.stdout:
             if not is_said:
-                print(self.last, flush=True)
+                say(self.last)
             self.last, is_said = row.rstrip("\n"), False
             name = self.named(self.last)
             if name:
                 self.hear(name)
                 said = self.progress.add(name)
                 if said:
-                    print(f"{self.last}\n{said}", flush=True)
+                    say(self.last, said)
                     self.last, is_said = "", True
         self.status, used = self.groups.wait(self.process)
         self.clock = self.progress.clock() - self.progress.begin
@@ -210,19 +217,18 @@ class Gate:
 
     def call(self, *words: str, **env: str) -> bool:
         """Whether a command ends well; what it says is passed on."""
-        sys.stdout.flush()
         return self.groups.wait(self.groups.start(list(words), cwd=self.top, env=os.environ | env))[0] == 0
 
     def look_at_texts(self) -> None:
         """Whether each mutant can be made, those of must-fail-more/ and must-fail-tests/ too, as one test
         more."""
-        print("-- the texts of the mutants ..", flush=True)
+        say("-- the texts of the mutants ..")
         if not self.call("./tests/edits", "--texts"):
             raise Failed
         self.passed += 1
 
     def stage(self, name: str, nice: int, words: list[str], **more: Any) -> Stage:
-        print(f"-- {name} ..", flush=True)
+        say(f"-- {name} ..")
         words = ["nice", "-n", str(nice), *words]
         return Stage(self.groups, name, self.groups.start(words, stdout=subprocess.PIPE, **more))
 
@@ -258,7 +264,7 @@ class Gate:
         if found:
             self.passed, self.failed = self.passed + int(found[1]), self.failed + int(found[2])
         else:
-            print(stage.last, stage.fault(), sep="\n", flush=True)
+            say(stage.last, stage.fault())
         if stage.status or not found or int(found[2]):
             raise Failed
 
@@ -272,7 +278,7 @@ class Gate:
         if status == 0 and said.startswith(OVER):
             self.over = said.split("\n")[0]
             return
-        print(said, flush=True)
+        say(said)
         if status:
             raise Failed
         self.passed += 1
@@ -296,7 +302,7 @@ class Gate:
         """The shipped program has the bytes of the one that was built, where the same kit built it; else it
         is tried from outside too."""
         if self.is_unshipped:
-            print("-- the shipped program is of other sources: not compared")
+            say("-- the shipped program is of other sources: not compared")
             return
         kit = crates.kit_here()
         rows = (self.top / f"{SHIPPED}.txt").read_text(encoding="utf-8").splitlines()
@@ -305,16 +311,16 @@ class Gate:
         shipped.write_bytes(gzip.decompress((self.top / f"{SHIPPED}.gz").read_bytes()))
         shipped.chmod(0o755)
         if kit != recorded:
-            print(
+            say(
                 f"-- the shipped program was built by '{recorded}', and this kit is '{kit}': not compared, "
                 "but tried from outside"
             )
             self.try_outside(shipped)
             return
         found, wanted = (hashlib.sha256(it.read_bytes()).hexdigest() for it in (self.copy / BUILT, shipped))
-        print(f"-- SHA-256 of the program that was built: {found}, of the shipped program: {wanted}")
+        say(f"-- SHA-256 of the program that was built: {found}, of the shipped program: {wanted}")
         if found != wanted:
-            print("-- they differ, though the same kit built them: run tools/ship")
+            say("-- they differ, though the same kit built them: run tools/ship")
             raise Failed
         self.passed += 1
 
@@ -331,13 +337,13 @@ class Gate:
         except Failed:
             self.failed = max(self.failed, 1)
         except (OSError, EOFError) as fault:
-            print(f"-- {fault}")
+            say(f"-- {fault}")
             self.failed = max(self.failed, 1)
         if self.proofs:
-            print(*minutes(self.samples.seen, self.proofs, self.mutants), sep="\n")
+            say(*minutes(self.samples.seen, self.proofs, self.mutants))
         if self.over:
-            print(self.over)
-        print(f"{self.passed} passed, {self.failed} failed", flush=True)
+            say(self.over)
+        say(f"{self.passed} passed, {self.failed} failed")
         return status
 
 
@@ -345,13 +351,15 @@ def main(words: list[str]) -> int:
     if words not in ([], ["--unshipped"]):
         print("usage: tests/gate [--unshipped]", file=sys.stderr)
         return 2
+    print_all()
     os.environ["LC_ALL"] = "C"
     room = Path(tempfile.mkdtemp())
     gate = Gate(TOP, room, bool(words))
 
     def stop(*_: Any) -> None:
         gate.groups.stop()
-        raise SystemExit(130)
+        shutil.rmtree(room, ignore_errors=True)
+        os._exit(130)  # (threads print still)
 
     for number in (signal.SIGHUP, signal.SIGINT, signal.SIGTERM):
         signal.signal(number, stop)

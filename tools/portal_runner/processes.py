@@ -2,10 +2,12 @@
 
 from __future__ import annotations
 
+import io
 import os
 import resource
 import signal
 import subprocess
+import sys
 import threading
 import time
 from pathlib import Path
@@ -28,7 +30,7 @@ class Groups:
             if self.is_stopped:
                 raise InterruptedError("stopped")
             process: subprocess.Popen[str]
-            process = subprocess.Popen(words, process_group=0, text=True, errors="replace", **more)
+            process = subprocess.Popen(words, process_group=0, encoding="utf-8", errors="replace", **more)
             self.running[process.pid] = process
         return process
 
@@ -74,6 +76,13 @@ def run(groups: Groups, words: list[str], out: Path, **more: Any) -> int:
             file.write(f"{words[0]}: {fault.strerror}\n")
             return 126
         return groups.wait(process)[0]
+
+
+def print_all() -> None:
+    """Has this process print whatever text there is, in any locale."""
+    for stream in (sys.stdout, sys.stderr):
+        if isinstance(stream, io.TextIOWrapper):
+            stream.reconfigure(errors="replace")
 
 
 def seconds(since: float) -> int:

@@ -365,18 +365,22 @@ def run_all(options: Options) -> int:
     room = Path(tempfile.mkdtemp())
     run = Run(TOP, options, room, Machine(TOP), len(os.sched_getaffinity(0)))
 
+    def clean() -> None:
+        shutil.rmtree(room, ignore_errors=True)
+        if run.kit.is_relative_to("/tmp"):
+            shutil.rmtree(run.kit, ignore_errors=True)
+
     def stop(*_: Any) -> None:
         run.groups.stop()
-        raise SystemExit(130)
+        clean()
+        os._exit(130)  # (threads print still)
 
     for number in (signal.SIGHUP, signal.SIGINT, signal.SIGTERM):
         signal.signal(number, stop)
     try:
         return run.all()
     finally:
-        shutil.rmtree(room, ignore_errors=True)
-        if run.kit.is_relative_to("/tmp"):
-            shutil.rmtree(run.kit, ignore_errors=True)
+        clean()
 
 
 def main(words: list[str]) -> int:
@@ -384,6 +388,7 @@ def main(words: list[str]) -> int:
     if not options.is_quick and not shutil.which("rt"):
         print(NO_PROVER, file=sys.stderr)
         return 3
+    processes.print_all()
     return run_all(options)
 
 
