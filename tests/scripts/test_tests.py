@@ -435,20 +435,24 @@ class Whole(StandIns):
 class WithoutPython(StandIns):
     """The parts that are Python do not run, and the others do."""
 
-    def setUp(self) -> None:
-        super().setUp()
-        without = self.room / "without"
-        without.mkdir()
+    @classmethod
+    def setUpClass(cls) -> None:
+        folder = tempfile.TemporaryDirectory(prefix="scripts-")
+        cls.addClassCleanup(folder.cleanup)
+        cls.without = Path(folder.name)
         for file in Path("/usr/bin").iterdir():
             if not file.name.startswith("python"):
-                (without / file.name).symlink_to(file)
+                (cls.without / file.name).symlink_to(file)
+
+    def setUp(self) -> None:
+        super().setUp()
         (self.bin / "dpkg-query").write_text("#!/bin/sh\n[ \"$4\" != bash ] || echo installed\n")
         (self.bin / "dpkg-query").chmod(0o755)
         # (./test looks for Debian's own Python too)
         text = (self.tree / "test").read_text()
         self.assertIn(" /usr/bin/python3;", text)
         (self.tree / "test").write_text(text.replace(" /usr/bin/python3;", ";"))
-        self.env["PATH"] = f"{self.bin}:{without}"
+        self.env["PATH"] = f"{self.bin}:{self.without}"
         for name in ("tests-scripts-run", "tests-cases-run", "tests-documents", "tests-edits", "deb-test-package"):
             self.does(name, "echo it ran without Python; exit 127")
 
@@ -511,7 +515,7 @@ class WithoutPython(StandIns):
         self.assert_said("test: skipped: outside: no program was built from these sources .*")
 
     def test_an_old_python(self) -> None:
-        (self.bin / "python3").write_text("#!/bin/sh\nexit 1\n")
+        (self.bin / "python3").write_text("#!/bin/sh\n[ $1 = -c ] || echo it ran an old Python\n[ \"${2#*'3, 11'}\" = \"$2\" ]\n")
         (self.bin / "python3").chmod(0o755)
         self.call("test", "--quick")
         self.assert_ended(0, "10 passed, 0 failed")
