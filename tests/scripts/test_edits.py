@@ -152,7 +152,7 @@ NAMESAKE = """impl Pair {
 
 
 Pairs = list[Any]
-MEMORY = "= 5_500_000, 2_500_000, 6_000_000"
+MEMORY = "= 4_000_000, 2_500_000, 6_000_000"
 
 
 def module_of_edits() -> Any:
@@ -348,6 +348,22 @@ class AsProved(WithProver):
         put(self.prover, "#!/bin/sh\nkill -9 $$\n")
         self.talk(["low", "high", "last"], ())
         self.assertEqual(self.last, ("0 passed, 3 failed", 1))
+
+
+class Divided(WithProver):
+    """Of a crate with many edits each is in one of several trials, together with its control."""
+
+    def test_each_is_in_one(self) -> None:
+        named = [(f"edit_{at:02}", [("a + 1", "let b = a; b", "let b = a; b + 1")]) for at in range(41)]
+        self.make_tree(named)
+        edits = module_of_edits()
+        edits.HERE = self.tree
+        crates = edits.Crates(self.tree)
+        parts = [[(it.name, it.is_control) for it in trial.edits] for trial in edits.trials_of(crates, "low", "must-fail")]
+        self.assertEqual([len(it) for it in parts], [28, 28, 26])
+        self.assertEqual(sorted(sum(parts, [])), sorted((name, is_control) for name, _ in named for is_control in (False, True)))
+        self.assertTrue(all((name, not is_control) in it for it in parts for name, is_control in it), "a control is with its edit")
+        self.assertEqual(edits.trials_of(crates, "low", "must-fail-more"), [], "a crate without edits has no trial")
 
 
 class Trial:
