@@ -13,7 +13,7 @@ from pathlib import Path
 
 from small_tree import TOP, put
 
-PARTS = """tests/shipped tests/scripts/run tests/openapi tests/surface tests/documents tests/lint tests/edits tests/mutants tests/able
+PARTS = """tests/shipped tests/scripts/unit tests/openapi tests/surface tests/documents tests/lint tests/edits tests/mutants tests/able
 tests/environments tests/outside/run tests/cases/run tests/memory/run field/test/run field/test/must_fail.py field/radius/test/run
 deb/test/package deb/test/run portal""".split()
 # It does what the file did/NAME says, with - for each / of its path; without one it passes. What ran is written down.

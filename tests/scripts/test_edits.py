@@ -10,6 +10,7 @@ import shutil
 import subprocess
 import sys
 import tempfile
+import threading
 import time
 import types
 import unittest
@@ -306,6 +307,9 @@ class AsProved(WithProver):
         for name in ("high", "last", "bare"):
             shutil.copytree(self.tree / "crates/low", self.tree / "crates" / name)
         shutil.rmtree(self.tree / "crates/bare/must-fail")
+        self.library = self.tree / "crates/low/out/rlib/low.rlib"
+        self.library.parent.mkdir(parents=True)
+        self.library.touch()
 
     def crates(self) -> list[str]:
         return [line.split()[2] for line in self.asked_lines()]
@@ -340,6 +344,14 @@ class AsProved(WithProver):
         self.assertEqual(self.said[-1], "high: FAILED: its mutants were not tried, as not all crates were proved")
         self.assertEqual(self.crates(), ["low", "last"], "each is tried once")
 
+    def test_the_libraries_below_have_to_be_there(self) -> None:
+        self.library.unlink()
+        later = threading.Timer(5, self.library.touch)
+        later.start()
+        self.addCleanup(later.cancel)
+        self.assertEqual(self.talk(["high", "low"], ("low",)), [[], ["low"]])
+        self.assertEqual(self.talk(["low", "high", "last"])[-1][-2:], ["high", "last"])
+
     def test_none_is_named(self) -> None:
         self.talk([])
         self.assertEqual((self.last, self.crates()), (("0 passed, 3 failed", 1), []))
@@ -368,10 +380,13 @@ class Divided(WithProver):
 
 class Trial:
     def __init__(self, size: int, kilobytes: int) -> None:
-        self.size, self.kilobytes = size, kilobytes
+        self.size, self.kilobytes, self.is_complete = size, kilobytes, True
 
     def memory(self) -> int:
         return self.kilobytes
+
+    def has_libraries(self) -> bool:
+        return self.is_complete
 
 
 class Lanes(unittest.TestCase):
@@ -409,6 +424,12 @@ class Lanes(unittest.TestCase):
         self.assertEqual(self.begin(lanes), [], "the checks hold 8 GB of 13.5")
         self.have(12_000_000, 13_500_000)
         self.assertEqual(self.begin(lanes), [4, 2], "they hold all")
+
+    def test_a_library_is_missing(self) -> None:
+        for is_open, begun in ((True, [6, 5, 4, 2]), (False, [7, 6, 5, 4, 2])):
+            lanes = self.lanes(is_open)
+            lanes.waiting[-1].is_complete = False
+            self.assertEqual(self.begin(lanes), begun)
 
     def test_no_memory(self) -> None:
         self.have(1_000_000, 0)

@@ -138,7 +138,7 @@ class Parts(unittest.TestCase):
         self.assertEqual(command("openapi"), ["./tests/openapi"])
         self.assertEqual(command("field::test_front.py::Pages::test_b"), ["./field/test/run", "test/test_front.py::Pages::test_b"])
         self.assertEqual(command("package::release_test.py::test_c"), ["./deb/test/package", "release_test.py::test_c"])
-        self.assertEqual(command("scripts::test_gate.py"), ["./tests/scripts/run", "test_gate.py"])
+        self.assertEqual(command("scripts::test_gate.py"), ["./tests/scripts/unit", "test_gate.py"])
         self.assertEqual(command("nothing"), [])
 
     def test_long_parts(self) -> None:

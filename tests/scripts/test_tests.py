@@ -433,7 +433,9 @@ class Whole(StandIns):
 
 
 class WithoutPython(StandIns):
-    """The parts that are Python do not run, and the others do."""
+    """The parts that are Python do not run, and the others do. `without` has all commands but Python."""
+
+    without: Path
 
     @classmethod
     def setUpClass(cls) -> None:
@@ -453,7 +455,7 @@ class WithoutPython(StandIns):
         self.assertIn(" /usr/bin/python3;", text)
         (self.tree / "test").write_text(text.replace(" /usr/bin/python3;", ";"))
         self.env["PATH"] = f"{self.bin}:{self.without}"
-        for name in ("tests-scripts-run", "tests-cases-run", "tests-documents", "tests-edits", "deb-test-package"):
+        for name in ("tests-scripts-unit", "tests-cases-run", "tests-documents", "tests-edits", "deb-test-package"):
             self.does(name, "echo it ran without Python; exit 127")
 
     def test_quick(self) -> None:

@@ -379,4 +379,6 @@ def main(words: list[str]) -> int:
         if str(end):
             say(str(end))
         return end.status
+    except KeyboardInterrupt:
+        return 130
     return 0
