@@ -33,7 +33,7 @@ class FakeRun(Run):
         top = room / "tree"
         super().__init__(top, options, room, FakeMachine(top), processors)
         self.answers: dict[str, list[Answer]] = {}
-        self.able, self.built_from, self.gate = "it needs root", "path: /bin/true", GOOD
+        self.able, self.built_from, self.ables = "it needs root", "path: /bin/true", dict[str, str]()
         self.ran: list[str] = []
         self.said: list[str] = []
 
@@ -48,7 +48,7 @@ class FakeRun(Run):
 
     def ask(self, *words: str, is_loud: bool = False) -> str:
         self.ran.append(" ".join(words))
-        return self.able if words[0].endswith("able") else self.built_from if "--built-from" in words else "no room"
+        return self.ables.get(words[1], self.able) if words[0].endswith("able") else self.built_from if "--built-from" in words else "no room"
 
     def copy_kit(self) -> None:
         self.kit = Path("/kit")
@@ -224,6 +224,13 @@ class Long(Small):
                       f"{env} /kit/field/radius/test/run --portal /kit/portal", "./deb/test/run --portal /bin/true", "./tests/environments", "gate"):
             self.assertIn(words, run.ran)
             self.assertLess(run.ran.index("./documents"), run.ran.index(words))
+
+    def test_some_can_run(self) -> None:
+        run = FakeRun(self.room, Options(is_quick=True, has_packets=True))
+        run.ables = {"radius": ""}
+        run.all()
+        self.assertIn("env TMPDIR=/tmp PYTHONPATH=/kit/field /kit/field/radius/test/run --portal /kit/portal", run.ran)
+        self.assertIn("test: skipped: e2e: it needs root", run.said)
 
     def test_none_after_a_failure(self) -> None:
         run = self.run_with(answers={"openapi": [("1 passed, 1 failed\n", 1)]}, able="")

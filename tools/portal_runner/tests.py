@@ -119,7 +119,7 @@ class Run:
                 self.run_quick_part(part)
 
     def run_quick_parts(self) -> None:
-        """The parts that need no prover, in two lanes, or in three where there are as many processors. The
+        """The parts that need no prover, in two jobs, or in three where there are as many processors. The
         first has those that look at times, and then each takes of the others what comes next."""
         parts = read_parts(self.top, self.options.only, bool(os.environ.get("TEST_INSIDE")))
         self.parts += [it.name for it in parts]
@@ -188,7 +188,7 @@ class Run:
         again when nothing else does."""
         parts = long_parts(self.top, self.options.only)
         self.parts += parts.all()
-        if (parts.labs or parts.mutants) and self.has_program() and not self.why_not("e2e"):
+        if (parts.labs or parts.mutants) and self.has_program():
             self.copy_kit()
         lanes: list[Callable[[], None]] = []
         if not self.options.is_quick:
