@@ -68,7 +68,8 @@ module _ (h : History) (row : SessionValue) (first : Grant) (it : IsOpenedBy h r
   pub device_is : IsLegal h → IsDevice row.device → row.device ≡ first.device
   device_is legal device = same_device row.device first.device device
       (one (λ (s : SessionRow). IsDevice s.device) (sessions_of h) (row_of_opening h first)
-      (rows_are_typed h legal).sessions (has_mapped (row_of_opening h) (openings (grants_of h)) first it.among))
+      (rows_are_typed h legal).sessions
+      (has_mapped (row_of_opening h) (openings (grants_of h)) first it.among))
       (ap (λ (s : SessionRow). s.device) it.row_is)
 
 -- what decides whether a session is open, as its row tells it

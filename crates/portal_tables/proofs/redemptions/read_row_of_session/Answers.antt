@@ -11,4 +11,5 @@ returns-in-Some-clause-reads g c =
     let row = subst (λ (o : Option SessionValue). Finds (λ (x : SessionRow). x.number) c.args.number
     (map session_kept (sessions_of h)) (option_map session_read o)
     × IfSome o (λ r. Has (totals_of h) (session_total r))) c.in-Some.is is.1 in
-    row_of_number h legal c.args.number c.in-Some.row row.0 row.1) (of_rows g.S.Store c.in_ok-row.ensures.reads)
+    row_of_number h legal c.args.number c.in-Some.row row.0 row.1)
+    (of_rows g.S.Store c.in_ok-row.ensures.reads)
