@@ -9,7 +9,6 @@ import io
 import os
 import re
 import shutil
-import signal
 import subprocess
 import sys
 import tempfile
@@ -19,7 +18,7 @@ from pathlib import Path
 from typing import Any
 
 from . import crates
-from .processes import Groups, print_all
+from .processes import Groups, print_all, run_until_stopped
 from .progress import Progress
 from .results import COUNTS, OVER
 
@@ -355,15 +354,4 @@ def main(words: list[str]) -> int:
     os.environ["LC_ALL"] = "C"
     room = Path(tempfile.mkdtemp())
     gate = Gate(TOP, room, bool(words))
-
-    def stop(*_: Any) -> None:
-        gate.groups.stop()
-        shutil.rmtree(room, ignore_errors=True)
-        os._exit(130)  # (threads print still)
-
-    for number in (signal.SIGHUP, signal.SIGINT, signal.SIGTERM):
-        signal.signal(number, stop)
-    try:
-        return gate.all()
-    finally:
-        shutil.rmtree(room, ignore_errors=True)
+    return run_until_stopped(gate.all, gate.groups, lambda: shutil.rmtree(room, ignore_errors=True))

@@ -10,6 +10,7 @@ import subprocess
 import sys
 import threading
 import time
+from collections.abc import Callable
 from pathlib import Path
 from typing import IO, Any
 
@@ -87,3 +88,19 @@ def print_all() -> None:
 
 def seconds(since: float) -> int:
     return int(time.monotonic() - since)
+
+
+def run_until_stopped(work: Callable[[], int], groups: Groups, clean: Callable[[], None]) -> int:
+    """What the work answers. It is cleaned up after the work, and where a signal ends it: then the groups are
+    stopped, and the status is 130."""
+    def stop(*_: Any) -> None:
+        groups.stop()
+        clean()
+        os._exit(130)  # (threads print still)
+
+    for number in (signal.SIGHUP, signal.SIGINT, signal.SIGTERM):
+        signal.signal(number, stop)
+    try:
+        return work()
+    finally:
+        clean()

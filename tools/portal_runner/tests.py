@@ -5,7 +5,6 @@ from __future__ import annotations
 import functools
 import os
 import shutil
-import signal
 import subprocess
 import sys
 import tempfile
@@ -15,7 +14,7 @@ import traceback
 from collections import deque
 from collections.abc import Callable
 from pathlib import Path
-from typing import Any, NamedTuple
+from typing import NamedTuple
 
 from . import processes
 from .parts import LongParts, Part, kind_of, long_command, long_parts, names_in_part, read_parts
@@ -370,17 +369,7 @@ def run_all(options: Options) -> int:
         if run.kit.is_relative_to("/tmp"):
             shutil.rmtree(run.kit, ignore_errors=True)
 
-    def stop(*_: Any) -> None:
-        run.groups.stop()
-        clean()
-        os._exit(130)  # (threads print still)
-
-    for number in (signal.SIGHUP, signal.SIGINT, signal.SIGTERM):
-        signal.signal(number, stop)
-    try:
-        return run.all()
-    finally:
-        clean()
+    return processes.run_until_stopped(run.all, run.groups, clean)
 
 
 def main(words: list[str]) -> int:
