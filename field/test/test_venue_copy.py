@@ -170,13 +170,15 @@ class Whole(Case):
 
     def test_a_copy_that_was_changed_is_refused_and_nothing_is_done(self) -> None:
         copy = self.copy()
-        data = bytearray(copy.read_bytes())
-        data[len(data) // 2] ^= 1
-        copy.write_bytes(data)
-        for _ in range(2):      # by its sum, and without one
-            with self.assertRaises(BadCopy):
-                self.restore(copy)
-            pathlib.Path(f"{copy}.sha256").unlink(missing_ok=True)
+        good = copy.read_bytes()
+        for place in (len(good) // 2, len(good) - 8):      # within the files, and in gzip's own sum of them
+            data = bytearray(good)
+            data[place] ^= 1
+            copy.write_bytes(data)
+            for _ in range(2):      # by its sum, and without one
+                with self.assertRaises(BadCopy):
+                    self.restore(copy)
+                pathlib.Path(f"{copy}.sha256").unlink(missing_ok=True)
         self.assertEqual(sorted(path.name for path in self.machine.rglob("*")), ["lib", "portal", "var"])
 
     def test_the_sum_beside_a_copy_counts(self) -> None:

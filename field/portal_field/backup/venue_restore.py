@@ -72,6 +72,13 @@ def checked(tar: tarfile.TarFile) -> list[tarfile.TarInfo]:
     return members
 
 
+def read_to_end(tar: tarfile.TarFile) -> None:
+    """Reads what is behind the last member, where gzip has its sum (RFC 1952, section 2.3.1). OSError: it is
+    another one than that of what was read."""
+    while tar.fileobj and tar.fileobj.read(2**20):
+        pass
+
+
 def unpack(file: pathlib.Path, key: pathlib.Path | None, scratch: pathlib.Path) -> Venue:
     """Unpacks a copy below a folder that root alone reads. BadCopy: it is no whole copy of a venue."""
     folder = scratch / "venue"
@@ -81,6 +88,7 @@ def unpack(file: pathlib.Path, key: pathlib.Path | None, scratch: pathlib.Path) 
         with tarfile.open(opened(file, key, scratch)) as tar:
             members = checked(tar)
             tar.extractall(folder, members)
+            read_to_end(tar)
         about = tomllib.loads((folder / LABEL).read_text())
     except (tarfile.TarError, EOFError, OSError, ValueError) as fault:
         raise BadCopy(f"it is no copy of a venue: {fault}") from fault
