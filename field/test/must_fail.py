@@ -1,10 +1,10 @@
 #!/usr/bin/python3
 """Tries the mutants of the kit: each is made in a copy, and its test has to fail of it as its table says.
 
-    must_fail.py [--portal "CMD .."] [--kind unit|browser|packets|radius] [--labs N] [NAME ..]
+    must_fail.py [--portal "CMD .."] [--kind unit|browser|packets|radius] [--table TABLE] [--labs N] [NAME ..]
 
-Those of kinds `unit` and `browser` need no root; those of kind `radius` are tried if they are named, or with --kind. N at a
-time run side by side, each in a lab of its own. A mutant has survived that no test refuses, whose test fails
+Those of kinds `unit` and `browser` need no root; those of kind `radius` are tried if they are named, or with --kind. TABLE is a
+file of mutants/ without its suffix. N at a time run side by side, each in a lab of its own. A mutant has survived that no test refuses, whose test fails
 first in another way than expected, or whose test the kit as it is does not pass. The last line: 'N passed, M
 failed'.
 """
@@ -165,9 +165,10 @@ def side_by_side(mutants: list[Mutant], portal: str, labs: int) -> Iterator[tupl
         yield from zip(mutants, verdicts)
 
 
-def choose(kinds: list[str], names: list[str]) -> list[Mutant]:
-    """The mutants that are named, or if none is those of these kinds; those of unit tests come first."""
-    mutants = [mutant for mutant in read_all() if mutant.kind in KINDS]
+def choose(kinds: list[str], names: list[str], table: str = "") -> list[Mutant]:
+    """The mutants that are named, or if none is those of these kinds, of one table if that is named; those of unit
+    tests come first."""
+    mutants = [mutant for mutant in read_all(table=table) if mutant.kind in KINDS]
     unknown = set(names) - {mutant.name for mutant in mutants}
     if unknown:
         raise SystemExit(f"must_fail.py: no such mutant: {', '.join(sorted(unknown))}")
@@ -187,12 +188,13 @@ def main() -> int:
     words = argparse.ArgumentParser(description="The mutants of the kit, each refused by its test.")
     words.add_argument("--portal", default="", help="the program, as a command line; else the stand-in")
     words.add_argument("--kind", action="append", choices=KINDS, help="of this kind; else all but radius")
+    words.add_argument("--table", default="", help="of this table alone")
     words.add_argument("--labs", type=int, default=max(4, os.cpu_count() or 1), help="how many at a time")
     words.add_argument("names", nargs="*")
     args = words.parse_args()
     signal.signal(signal.SIGTERM, end_all)
     sys.dont_write_bytecode = True
-    mutants = choose(args.kind or ["unit", "browser", "packets"], args.names)
+    mutants = choose(args.kind or ["unit", "browser", "packets"], args.names, args.table)
     survivors, skipped = 0, list[str]()
     for mutant, verdict in side_by_side(mutants, args.portal, args.labs):
         if verdict.startswith(SKIPPED):

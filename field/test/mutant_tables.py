@@ -108,9 +108,9 @@ def read_table(path: pathlib.Path) -> Table:
     return Table(mutants, runs)
 
 
-def read_all(top: pathlib.Path = TOP) -> list[Mutant]:
-    """The mutants of all tables that are there."""
-    paths = [path for pattern in TABLES for path in sorted(top.glob(pattern))]
+def read_all(top: pathlib.Path = TOP, table: str = "") -> list[Mutant]:
+    """The mutants of all tables that are there, or of the one of this name."""
+    paths = [path for pattern in TABLES for path in sorted(top.glob(pattern)) if table in ("", path.stem)]
     mutants = [mutant for path in paths for mutant in read_table(path).mutants]
     names = [mutant.name for mutant in mutants]
     if len(names) != len(set(names)):

@@ -171,7 +171,7 @@ class Order(unittest.TestCase):
 
     def plan(self, jobs: int, **costs: int) -> Plan:
         uses = {name: lower.split() for name, _, lower in (it.partition(":") for it in WIDE)}
-        return Plan(uses, {name: [cost] for name, cost in costs.items()}, jobs)
+        return Plan(uses, {f"prove:{name}": float(cost) for name, cost in costs.items()}, jobs)
 
     def test_the_longest_chain_first(self) -> None:
         plan = self.plan(4, right=500)

@@ -6,13 +6,9 @@ from __future__ import annotations
 import importlib.machinery
 import importlib.util
 import os
-import shutil
 import subprocess
 import sys
 import tempfile
-import threading
-import time
-import types
 import unittest
 from pathlib import Path
 from typing import Any
@@ -153,7 +149,7 @@ NAMESAKE = """impl Pair {
 
 
 Pairs = list[Any]
-MEMORY = "= 4_000_000, 2_500_000, 6_000_000"
+MEMORY = "= 4_000_000, 2_500_000"
 
 
 def module_of_edits() -> Any:
@@ -190,7 +186,7 @@ class WithProver(unittest.TestCase):
             (crate / f"must-fail/{name}.edit").write_text("\n".join(lines) + "\n")
         text = (TOP / "tests/edits").read_text()
         self.assertIn(MEMORY, text)
-        put(self.tree / "tests/edits", text.replace(MEMORY, "= 0, 0, 0"))    # (whatever this machine has)
+        put(self.tree / "tests/edits", text.replace(MEMORY, "= 0, 0"))    # (whatever this machine has)
         put(kit / "bin/rt", f"#!/bin/sh\ncat >/dev/null\necho {kit}/START-HERE.md\n")
         self.prover = put(kit / "bin/rattle", PROVER)
         (self.room / "asked").touch()
@@ -297,69 +293,27 @@ class Edits(WithProver):
         self.assertIn("fn one_2() -> u8 {\n        Other::one(Self::one_2(), Pair::one_2(), other.one(), one_2())\n", copied)
 
 
-class AsProved(WithProver):
-    """Each crate is tried once its name has come, and fails where it has not come by the end."""
+class Proved(WithProver):
+    """With --prove the libraries are those that rt ci builds in a copy without the edits."""
 
-    def setUp(self) -> None:
-        super().setUp()
+    def call(self, *lines: str) -> tuple[int, list[str]]:
+        """The status and what is said, with an rt whose `rt ci` has these lines."""
         self.make_tree([EDITS[0][:2]])
-        (self.tree / "crates.txt").write_text("low: sqlite\nhigh: low\nlast: low\nbare: low\n")
-        for name in ("high", "last", "bare"):
-            shutil.copytree(self.tree / "crates/low", self.tree / "crates" / name)
-        shutil.rmtree(self.tree / "crates/bare/must-fail")
-        self.library = self.tree / "crates/low/out/rlib/low.rlib"
-        self.library.parent.mkdir(parents=True)
-        self.library.touch()
+        (self.tree / "HANDLES").write_text("Handles allowed: Net.\n")
+        doc = f'[ "$1" != doc ] || {{ echo "{self.room}/kit/START"; exit; }}'
+        put(self.room / "kit/bin/rt", "\n".join(["#!/bin/sh", doc, *lines]) + "\n")
+        ran = subprocess.run([self.tree / "tests/edits", "--prove", "--jobs", "1", "low"], env=self.env, stdin=subprocess.DEVNULL,
+                             stdout=subprocess.PIPE, text=True)
+        return ran.returncode, ran.stdout.splitlines()
 
-    def crates(self) -> list[str]:
-        return [line.split()[2] for line in self.asked_lines()]
+    def test_they_are_built_first(self) -> None:
+        status, said = self.call(f"ls -d crates/* crates/*/* >'{self.folder}/copy'")
+        self.assertEqual((status, said[-1]), (0, "1 passed, 0 failed"), said)
+        self.assertEqual((self.folder / "copy").read_text().split(), ["crates/low", "crates/low/src"])
 
-    def talk(self, names: list[str], tried: tuple[str, ...] = ("low", "high", "last")) -> list[list[str]]:
-        """Names crates to it, each when those before were tried. Answers the crates that had been tried after each name; `said` is what it
-        says of each, and `last` its last line, with its status."""
-        process = subprocess.Popen(
-            [self.tree / "tests/edits", "--as-proved"], env=self.env, stdin=subprocess.PIPE, stdout=subprocess.PIPE, text=True
-        )
-        assert process.stdin
-        found = []
-        for name in names:
-            process.stdin.write(f"{name}\n")
-            process.stdin.flush()
-            for _ in range(600 if name in tried else 10):
-                if name in self.crates():
-                    break
-                time.sleep(0.05)
-            found.append(self.crates())
-        *self.said, last = process.communicate(timeout=100)[0].strip().split("\n")
-        self.last = last, process.returncode
-        return found
-
-    def test_one_after_another(self) -> None:
-        self.assertEqual(self.talk(["low", "bare", "high", "last"]), [["low"], ["low"], ["low", "high"], ["low", "high", "last"]])
-        self.assertEqual(self.last, ("3 passed, 0 failed", 0))
-
-    def test_one_is_not_named(self) -> None:
-        self.talk(["low", "no_such_crate", "low", "last"])
-        self.assertEqual(self.last, ("2 passed, 1 failed", 1))
-        self.assertEqual(self.said[-1], "high: FAILED: its mutants were not tried, as not all crates were proved")
-        self.assertEqual(self.crates(), ["low", "last"], "each is tried once")
-
-    def test_the_libraries_below_have_to_be_there(self) -> None:
-        self.library.unlink()
-        later = threading.Timer(5, self.library.touch)
-        later.start()
-        self.addCleanup(later.cancel)
-        self.assertEqual(self.talk(["high", "low"], ("low",)), [[], ["low"]])
-        self.assertEqual(self.talk(["low", "high", "last"])[-1][-2:], ["high", "last"])
-
-    def test_none_is_named(self) -> None:
-        self.talk([])
-        self.assertEqual((self.last, self.crates()), (("0 passed, 3 failed", 1), []))
-
-    def test_checks_that_are_killed(self) -> None:
-        put(self.prover, "#!/bin/sh\nkill -9 $$\n")
-        self.talk(["low", "high", "last"], ())
-        self.assertEqual(self.last, ("0 passed, 3 failed", 1))
+    def test_they_are_not_proved(self) -> None:
+        self.assertEqual(self.call("echo this is not proved; exit 1"), (1, ["this is not proved", "0 passed, 1 failed"]))
+        self.assertEqual(self.asked_lines(), [])
 
 
 class Divided(WithProver):
@@ -380,30 +334,24 @@ class Divided(WithProver):
 
 class Trial:
     def __init__(self, size: int, kilobytes: int) -> None:
-        self.size, self.kilobytes, self.is_complete = size, kilobytes, True
+        self.size, self.kilobytes = size, kilobytes
 
     def memory(self) -> int:
         return self.kilobytes
 
-    def has_libraries(self) -> bool:
-        return self.is_complete
-
 
 class Lanes(unittest.TestCase):
-    """What is begun, with 20 GB free, of five processors: the largest crates first; while others are proved, memory is kept for those."""
+    """What is begun, with 20 GB free and five checks at once: the largest crates first."""
 
     def setUp(self) -> None:
         self.edits = module_of_edits()
-        self.edits.os = types.SimpleNamespace(sched_getaffinity=lambda _: range(5))
         self.have(20_000_000, 0)
 
     def have(self, free: int, held: int) -> None:
         self.edits.memory_available, self.edits.memory_held = lambda: free, lambda: held
 
-    def lanes(self, is_open: bool) -> Any:
-        lanes = self.edits.Lanes([Trial(size, 5_500_000 if size % 2 else 2_500_000) for size in range(1, 8)])
-        lanes.is_open = is_open
-        return lanes
+    def lanes(self) -> Any:
+        return self.edits.Lanes([Trial(size, 5_500_000 if size % 2 else 2_500_000) for size in range(1, 8)], 5)
 
     def begin(self, lanes: Any) -> list[int]:
         begun = []
@@ -412,29 +360,23 @@ class Lanes(unittest.TestCase):
             lanes.running[trial] = trial
         return begun
 
-    def test_alone(self) -> None:
-        lanes = self.lanes(False)
+    def test_as_many_as_may_be(self) -> None:
+        lanes = self.lanes()
         self.assertEqual(self.begin(lanes), [7, 6, 5, 4, 2])
-        self.assertEqual(self.begin(lanes), [], "all processors are taken")
+        self.assertEqual(self.begin(lanes), [], "that is all")
 
-    def test_beside_proofs(self) -> None:
-        lanes = self.lanes(True)
+    def test_what_runs_needs_its_memory(self) -> None:
+        self.have(14_000_000, 0)
+        lanes = self.lanes()
         self.assertEqual(self.begin(lanes), [7, 6, 5])
-        self.have(12_000_000, 8_000_000)
+        self.have(6_000_000, 8_000_000)
         self.assertEqual(self.begin(lanes), [], "the checks hold 8 GB of 13.5")
-        self.have(12_000_000, 13_500_000)
+        self.have(6_000_000, 13_500_000)
         self.assertEqual(self.begin(lanes), [4, 2], "they hold all")
-
-    def test_a_library_is_missing(self) -> None:
-        for is_open, begun in ((True, [6, 5, 4, 2]), (False, [7, 6, 5, 4, 2])):
-            lanes = self.lanes(is_open)
-            lanes.waiting[-1].is_complete = False
-            self.assertEqual(self.begin(lanes), begun)
 
     def test_no_memory(self) -> None:
         self.have(1_000_000, 0)
-        self.assertEqual(self.begin(self.lanes(False)), [7], "one is tried always")
-        self.assertEqual(self.begin(self.lanes(True)), [], "unless others are proved")
+        self.assertEqual(self.begin(self.lanes()), [7], "one is tried always")
 
     def test_what_a_crate_needs(self) -> None:
         with tempfile.TemporaryDirectory() as folder:

@@ -1,14 +1,10 @@
-"""Tries how ./test reads what a part printed: counts, failures, what was passed over, and whether its reason is so; and its lists of
-parts."""
+"""Tries how ./test reads what a step printed: counts, failures, what was passed over, and whether its reason is so."""
 
 from __future__ import annotations
 
-import tempfile
 import unittest
-from pathlib import Path
 
-from portal_runner.parts import kind_of, long_command, long_parts, names_in_part, read_parts
-from portal_runner.results import Counts, Machine, Result, counts_of, passed_over, result_of, slowest
+from portal_runner.results import Counts, Reasons, Result, counts_of, result_of, slowest
 from small_tree import TOP
 
 
@@ -43,12 +39,6 @@ class Reading(unittest.TestCase):
         self.assertEqual((len(lines), {len(it) for it in lines}), (10, {300}))
         self.assertEqual(result_of("fine\nERROR: one\nok   FAIL\n", 1).failed_lines(), ["ERROR: one"])
 
-    def test_failed_names(self) -> None:
-        text = "FAIL test/e2e.py::test_a: no\nFAIL a/b.py::test_b[one two]: no\nFAIL one: SURVIVED\n0 passed, 3 failed"
-        self.assertEqual(result_of(text, 1).failed_names(), ["test/e2e.py::test_a", "a/b.py::test_b[one two]", "one"])
-        self.assertEqual(result_of(text.replace("3 failed", "4 failed"), 1).failed_names(), [], "one has no name")
-        self.assertEqual(result_of("FAIL a check\n1 passed, 1 failed", 1).failed_names(), [])
-
     def test_passed_over(self) -> None:
         good = "passed over: one: why\npassed over: two: why\n"
         for text, wanted in (
@@ -62,7 +52,6 @@ class Reading(unittest.TestCase):
             ("", []),
         ):
             self.assertEqual(result_of(text, 0).passed_over(), wanted, text)
-        self.assertEqual(passed_over("field", "not installed: x").passed_over(), ["field: not installed: x"])
 
     def test_slowest(self) -> None:
         text = "ok   a::b  [2.5 s]\nok   a::c  [31.0 s]\nok   d [1 s]\nok   e f  [9 s]\n"
@@ -70,7 +59,7 @@ class Reading(unittest.TestCase):
         self.assertEqual(len(slowest([Result("\n".join(f"ok   t{it}  [{it} s]" for it in range(30)))])), 10)
 
 
-class FakeMachine(Machine):
+class FakeReasons(Reasons):
     is_a_user = lacks = False
 
     def is_root(self) -> bool:
@@ -86,88 +75,39 @@ class FakeMachine(Machine):
         return not self.lacks
 
 
-class Reasons(unittest.TestCase):
+class OfSkips(unittest.TestCase):
     def setUp(self) -> None:
-        self.machine = FakeMachine(TOP)
+        self.reasons = FakeReasons(TOP)
 
     def test_packages(self) -> None:
-        self.assertTrue(self.machine.holds("one: not installed: no-such-package"))
-        self.assertTrue(self.machine.holds("one: not installed: bash, no-such-package"), "one of several is missing")
-        self.assertFalse(self.machine.holds("one: not installed: bash"))
+        self.assertTrue(self.reasons.holds("one: not installed: no-such-package"))
+        self.assertTrue(self.reasons.holds("one: not installed: bash, no-such-package"), "one of several is missing")
+        self.assertFalse(self.reasons.holds("one: not installed: bash"))
 
     def test_no_reason(self) -> None:
         for line in ("one: for no reason", "one", "it needs root", "one: it needs root or more", ""):
-            self.assertFalse(self.machine.holds(line), line)
+            self.assertFalse(self.reasons.holds(line), line)
 
     def test_others(self) -> None:
         reasons = ("it needs network namespaces", "it needs network namespaces with nftables",
                    "it needs the commit of version 1.0.0 in the history of git")
         for reason in reasons:
-            self.machine.lacks = True
-            self.assertTrue(self.machine.holds(f"one: {reason}"), reason)
-            self.machine.lacks = False
-            self.assertFalse(self.machine.holds(f"one: {reason}"), reason)
-        self.assertFalse(self.machine.holds("one: it needs root"))
-        self.machine.is_a_user = True
-        self.assertTrue(self.machine.holds("one: it needs root"))
+            self.reasons.lacks = True
+            self.assertTrue(self.reasons.holds(f"one: {reason}"), reason)
+            self.reasons.lacks = False
+            self.assertFalse(self.reasons.holds(f"one: {reason}"), reason)
+        self.assertFalse(self.reasons.holds("one: it needs root"))
+        self.reasons.is_a_user = True
+        self.assertTrue(self.reasons.holds("one: it needs root"))
 
     def test_this_machine(self) -> None:
         """The real one answers, whatever it is."""
-        machine = Machine(TOP)
-        self.assertFalse(machine.has_package("no-such-package"))
-        self.assertFalse(machine.succeeds("no-such-command"))
-        self.assertFalse(machine.succeeds("false"))
-        self.assertTrue(machine.succeeds("true"))
+        reasons = Reasons(TOP)
+        self.assertFalse(reasons.has_package("no-such-package"))
+        self.assertFalse(reasons.succeeds("no-such-command"))
+        self.assertFalse(reasons.succeeds("false"))
+        self.assertTrue(reasons.succeeds("true"))
 
 
-class Parts(unittest.TestCase):
-    def test_the_list(self) -> None:
-        parts = read_parts(TOP, "", False)
-        self.assertEqual([it.name for it in parts if it.is_timed], ["outside", "field"])
-        self.assertEqual(parts[2].command, ["./tests/memory/run", "PROGRAM", "--quick"])
-        self.assertEqual(read_parts(TOP, "", True)[2].command, ["./tests/memory/run", "PROGRAM", "--quick", "--one"])
-        self.assertEqual([it.name for it in parts if it.needs_program()], ["outside", "memory", "cases", "documents"])
-        for it in parts:
-            self.assertTrue((TOP / it.command[0]).is_file(), it.name)
-
-    def test_only(self) -> None:
-        def command(only: str) -> list[str]:
-            parts = read_parts(TOP, only, False)
-            return [] if len(parts) != 1 else parts[0].command
-
-        self.assertEqual(command("openapi"), ["./tests/openapi"])
-        self.assertEqual(command("field::test_front.py::Pages::test_b"), ["./field/test/run", "test/test_front.py::Pages::test_b"])
-        self.assertEqual(command("package::release_test.py::test_c"), ["./deb/test/package", "release_test.py::test_c"])
-        self.assertEqual(command("scripts::test_gate.py"), ["./tests/scripts/unit", "test_gate.py"])
-        self.assertEqual(command("nothing"), [])
-
-    def test_long_parts(self) -> None:
-        with tempfile.TemporaryDirectory() as folder:
-            top = Path(folder)
-            (top / "field/test").mkdir(parents=True)
-            for name in ("e2e.py", "e2e_more.py", "other.py"):
-                (top / "field/test" / name).touch()
-            self.assertEqual(long_parts(top, ""), (["e2e", "e2e_more", "radius", "radius_mutants"], ["must_fail"], ["container", "environments"]))
-            self.assertEqual(long_parts(top, "e2e::test_a"), (["e2e"], [], []))
-            self.assertEqual(long_parts(top, "nothing").all(), [])
-
-    def test_commands(self) -> None:
-        def command(name: str, only: str = "") -> list[str]:
-            words = long_command(name, names_in_part(name, only), "/bin/true", Path("/kit"))
-            return words[3:] if words[0] == "env" else words
-
-        kit = ["--portal", "/kit/portal"]
-        self.assertEqual(command("e2e"), ["/kit/field/test/run", *kit, "test/e2e.py"])
-        self.assertEqual(command("e2e", "e2e::test_a"), ["/kit/field/test/run", *kit, "test/e2e.py::test_a"])
-        self.assertEqual(command("must_fail"), ["/kit/field/test/must_fail.py", *kit])
-        self.assertEqual(command("must_fail", "must_fail::one"), ["/kit/field/test/must_fail.py", *kit, "one"])
-        self.assertEqual(command("radius"), ["/kit/field/radius/test/run", *kit])
-        self.assertEqual(command("radius", "radius::test_a.py::test_d"), ["/kit/field/test/run", *kit, "radius/test/test_a.py::test_d"])
-        self.assertEqual(command("radius_mutants"), ["/kit/field/test/must_fail.py", *kit, "--kind", "radius"])
-        self.assertEqual(command("radius_mutants", "radius_mutants::one"), ["/kit/field/test/must_fail.py", *kit, "one"])
-        self.assertEqual(command("container"), ["./deb/test/run", "--portal", "/bin/true"])
-        self.assertEqual(command("container", "container::a.py::test_e"), ["./deb/test/run", "--portal", "/bin/true", "a.py::test_e"])
-        self.assertEqual(command("environments"), ["./tests/environments"])
-        self.assertEqual([kind_of(it) for it in ("e2e_x", "must_fail", "radius", "radius_mutants", "container", "environments")],
-                         ["packets", "packets", "radius", "radius", "container", "environments"])
-        self.assertEqual(long_command("e2e", ["a", "b"], "", Path("/kit"))[3:], ["/kit/field/test/run", *kit, "a", "b"])
+if __name__ == "__main__":
+    unittest.main()

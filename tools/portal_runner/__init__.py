@@ -1,1 +1,1 @@
-"""What ./test, tests/gate and tools/build do. tests/scripts has its tests."""
+"""What ./test and tools/build do. tests/scripts has its tests."""

@@ -18,6 +18,7 @@ from pathlib import Path
 from typing import IO, Any
 
 from . import crates
+from .budgets import UNKNOWN, read_budgets
 
 TOP = Path(__file__).resolve().parent.parent.parent
 PROGRAM = "portal"
@@ -57,9 +58,9 @@ class Plan:
     """The crates that the program stands on: which comes next, with how many jobs, and how long the rest
     takes."""
 
-    def __init__(self, uses: dict[str, list[str]], costs: dict[str, list[int]], jobs: int) -> None:
+    def __init__(self, uses: dict[str, list[str]], costs: dict[str, float], jobs: int) -> None:
         self.uses, self.jobs, self.order = uses, jobs, crates.order_of(uses, PROGRAM)
-        self.costs = {it: costs.get(it, [crates.UNKNOWN_COST])[0] for it in self.order}
+        self.costs = {it: int(costs.get(f"prove:{it}", UNKNOWN)) for it in self.order}
         self.running: list[str] = []
         self.done: list[str] = []
         self.used = self.cost_done = 0
@@ -369,7 +370,7 @@ def run(top: Path, words: list[str]) -> None:
     with lock(top):
         sources = crates.sum_of_sources(top)
         if not words or not Record(top).is_current(sources, kit):
-            build(top, Plan(crates.uses_of(top), crates.costs_of(top), jobs), sources, kit)
+            build(top, Plan(crates.uses_of(top), read_budgets(top), jobs), sources, kit)
 
 
 def main(words: list[str]) -> int:

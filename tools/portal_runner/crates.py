@@ -1,4 +1,4 @@
-"""The crates of crates.txt, what each stands on, and what tools/costs.txt says that each costs."""
+"""The crates of crates.txt, and what each stands on; the sum of their sources, and the Rattle kit."""
 
 from __future__ import annotations
 
@@ -6,7 +6,6 @@ import re
 import subprocess
 from pathlib import Path
 
-UNKNOWN_COST = 60
 SUM = 'top=$1 && source "$top/tools/program.bash" && read_crates && sum_of_sources'
 
 
@@ -43,16 +42,6 @@ def order_of(uses: dict[str, list[str]], top: str) -> list[str]:
 
     visit(top)
     return order
-
-
-def costs_of(top: Path) -> dict[str, list[int]]:
-    """Of each crate that is listed the cost of its proofs, and of its tests if it has some."""
-    costs = {}
-    for row in (top / "tools/costs.txt").read_text(encoding="utf-8").splitlines():
-        name, *numbers = row.partition("#")[0].split() or [""]
-        if numbers and all(it.isdecimal() and int(it) for it in numbers):
-            costs[name] = [int(it) for it in numbers]
-    return costs
 
 
 def sum_of_sources(top: Path) -> str:

@@ -14,7 +14,7 @@ from collections.abc import Callable
 from pathlib import Path
 from typing import IO, Any
 
-TRIES = 100
+TRIES, SWEEPS = 100, 5
 
 
 class Groups:
@@ -65,8 +65,9 @@ class Groups:
             time.sleep(0.1)
 
 
-def run(groups: Groups, words: list[str], out: Path, **more: Any) -> int:
-    """Runs a command with what it says in a file. One that cannot be begun says so there."""
+def run(groups: Groups, words: list[str], out: Path, **more: Any) -> tuple[int, float]:
+    """Runs a command with what it says in a file: how it ended, and the seconds of the processor. One that
+    cannot be begun says so there. What it leaves running is ended."""
     file: IO[str]
     with out.open("w", encoding="utf-8") as file:
         try:
@@ -75,8 +76,10 @@ def run(groups: Groups, words: list[str], out: Path, **more: Any) -> int:
             if isinstance(fault, InterruptedError):
                 raise
             file.write(f"{words[0]}: {fault.strerror}\n")
-            return 126
-        return groups.wait(process)[0]
+            return 126, 0.0
+        status, used = groups.wait(process)
+        groups.kill(process, signal.SIGKILL)
+        return status, used.ru_utime + used.ru_stime
 
 
 def print_all() -> None:
@@ -92,11 +95,15 @@ def seconds(since: float) -> int:
 
 def run_until_stopped(work: Callable[[], int], groups: Groups, clean: Callable[[], None]) -> int:
     """What the work answers. It is cleaned up after the work, and where a signal ends it: then the groups are
-    stopped, and the status is 130."""
-    def stop(*_: Any) -> None:
+    stopped, which is said, and the status is 130."""
+
+    def stop(*_signal: Any) -> None:
         groups.stop()
-        clean()
-        os._exit(130)  # (threads print still)
+        for _ in range(SWEEPS):  # (a thread may be putting files there still)
+            clean()
+            time.sleep(0.1)
+        print("test: interrupted; what passed before is kept", flush=True)
+        os._exit(130)  # (threads run still)
 
     for number in (signal.SIGHUP, signal.SIGINT, signal.SIGTERM):
         signal.signal(number, stop)

@@ -13,7 +13,6 @@ COUNTS = re.compile(r"([0-9]+) passed, ([0-9]+) failed$")
 GOOD = re.compile(r"ok   |note |$|=+ slowest |[0-9.]+s (?:call|setup|teardown) |\([0-9]+ durations ")
 NOTE = re.compile(r"note (.*: once more)$")
 TOOK = re.compile(r"ok   (\S+)  \[([0-9.]+) s\]$")
-FAILED = re.compile(r"FAIL ([^ :]+(?:::[^ :[]+(?:\[[^]]*\])?)?): ")
 OVER = "passed over: "
 LINES_OF_A_PART, COLUMNS, SLOWEST = 10, 300, 10
 
@@ -44,11 +43,6 @@ class Result(NamedTuple):
         found = [it[:COLUMNS] for it in self.failures() if "FAIL" in it or "ERROR" in it]
         return found[:LINES_OF_A_PART]
 
-    def failed_names(self) -> list[str]:
-        """The tests or mutants that failed, where each failure names one."""
-        names = [found[1] for it in self.lines() if (found := FAILED.match(it))]
-        return names if len(names) == self.counts.failed else []
-
     def passed_over(self) -> list[str]:
         """Its lines of this form that stand directly before its last one. Elsewhere such a line is quoted."""
         lines = self.lines()
@@ -73,11 +67,6 @@ def result_of(text: str, status: int) -> Result:
     return Result(text, counts_of(text, status))
 
 
-def passed_over(part: str, reason: str) -> Result:
-    """What parts say themselves where they cannot run."""
-    return Result(f"{OVER}{part}: {reason}\n0 passed, 0 failed\n", Counts())
-
-
 def slowest(results: list[Result]) -> list[str]:
     """The tests that took longest, of those that say how long each took."""
     lines = [line for result in results for line in result.lines()]
@@ -85,7 +74,7 @@ def slowest(results: list[Result]) -> list[str]:
     return [f"{name}, {text} s" for _, text, name in sorted(found, key=lambda it: -it[0])[:SLOWEST]]
 
 
-class Machine:
+class Reasons:
     """What a skip may name as its reason, and whether it is so here."""
 
     def __init__(self, top: Path) -> None:
