@@ -374,6 +374,17 @@ class SideBySide(SmallRun):
             self.assertEqual(any(words in it for it in self.printed) if words else not any("budget of" in it for it in self.printed), True, self.printed)
             self.assertEqual(run.store.get(run.digests[name]) is None, status == 1)
 
+    def test_over_its_budget_holds_up_no_other(self) -> None:
+        self.write("tests/budgets.txt", "machine 1000\nlow 0.1\n")
+        report.LEAST = 0.2
+        self.addCleanup(setattr, report, "LEAST", 10.0)
+        low = self.step("low", "python3 -c 'import time\nwhile time.process_time() < 1: pass'", budget=0.1)
+        self.run_steps([low, self.step("high", after=("low",))])
+        self.assertEqual((self.status, self.printed[-1]), (1, "2 passed, 1 failed"), self.printed)
+        self.assertEqual(sum("test: failed: low took" in it for it in self.printed), 2, self.printed)
+        self.run_steps([low], options=Options(has_budgets=True))
+        self.assertEqual((self.status, self.printed[-1]), (0, "1 passed, 0 failed"), self.printed)
+
     def test_how_much_is_left(self) -> None:
         self.run_steps([self.step(f"s{it}") for it in range(3)], 1)
         self.assertIn("test: 3 steps to run, 3 s of processor time by tests/budgets.txt", self.printed)

@@ -63,7 +63,7 @@ class Report:
         return max(1.0, fixed_work() / of_budgets) if of_budgets else 1.0
 
     def take(self, step: Step, ran: Ran, budget: float = 0.0) -> bool:
-        """Says how a step ended, and whether it passed; it must not take its budget three times."""
+        """Says how a step ended, and whether it passed; it must not take its budget three times, if it has one."""
         faults = self.over(step, ran.processor, budget)
         for line in ran.result.passed_over():
             if not self.reasons.holds(line):
@@ -72,13 +72,12 @@ class Report:
             self.results[step.name] = ran.result
             self.processor += ran.processor
             self.ended, self.done = self.ended + 1, self.done + step.budget
-            if budget:
-                self.took[step.name] = ran.processor
             passed, failed = ran.result.counts
             lines = ran.result.failures() if failed else ran.result.notes()
             took = f"{ran.processor:.0f} s of the processor in {ran.clock:.0f} s"
             self.say(
                 *lines,
+                *(f"test: failed: {it}" for it in faults),
                 f"test: {step.name}: {passed} passed, {failed} failed, {took}{self.left()}",
             )
             self.faults += faults

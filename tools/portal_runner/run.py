@@ -136,23 +136,26 @@ class Run:
             self.changed.notify_all()
 
     def take(self, chosen: Chosen, ran: Ran) -> None:
-        """Keeps what passed, and says what failed."""
-        step = chosen.step
-        is_good = self.report.take(step, ran, budget=0.0 if chosen.test else step.budget)
-        if not chosen.test:
-            digests = self.digests[step.name], self.digest_of_most(step)
-            kept = Kept(ran.result.counts.passed, ran.result.passed_over(), round(ran.processor, 1))
-            before = self.store.get(digests[0]) if self.options.is_anew else None
-            if before and (not is_good or before[:2] != kept[:2]):
-                self.report.contradicts(step, before)
-                is_good = False
-            for digest in digests:
-                if is_good:
-                    self.store.keep(digest, step.name, kept)
-                else:
-                    self.store.forget(digest)
-        if not is_good:
+        """Keeps what passed, and says what failed. What took too long fails, but holds up no step: its checks
+        passed."""
+        step, is_measured = chosen.step, self.options.has_budgets
+        is_good = self.report.take(step, ran, 0.0 if chosen.test or is_measured else step.budget)
+        if ran.result.counts.failed:
             self.failed.add(step.name)
+        if chosen.test:
+            return
+        self.report.took[step.name] = ran.processor
+        digests = self.digests[step.name], self.digest_of_most(step)
+        kept = Kept(ran.result.counts.passed, ran.result.passed_over(), round(ran.processor, 1))
+        before = self.store.get(digests[0]) if self.options.is_anew else None
+        if before and (not is_good or before[:2] != kept[:2]):
+            self.report.contradicts(step, before)
+            is_good = False
+        for digest in digests:
+            if is_good:
+                self.store.keep(digest, step.name, kept)
+            else:
+                self.store.forget(digest)
 
     def run_again(self, chosen: list[Chosen]) -> None:
         """Runs what looks at times and failed once more, now alone."""
