@@ -51,7 +51,7 @@ if "fn one(b" in text and "fn one_2" in text:
 if "no_hole_here" in holes:
     print("./proofs/no_hole_here/Proof.antt:2:5: error: `no_hole_here_spec`: it takes no hole")
     print("note: src/lib.rt:4:5: it is not proved that what the function ensures holds when it returns (`returns`)")
-for name, start, body in ((m[2], m.start(2), m[0]) for m in re.finditer(r"(?ms)^( *)(?:pub )?fn (\w+).*?^\1}$", text)):
+for name, start, body in (("Pair::" * bool(m[1]) + m[2], m.start(2), m[0]) for m in re.finditer(r"(?ms)^( *)(?:pub )?fn (\w+).*?^\1}$", text)):
     if "wrong" in body:
         line = text[:start].count("\n") + 1
         print(f"note: src/lib.rt:{line}:5: it is not proved that what the function ensures holds when it returns (`returns`)")
@@ -125,6 +125,20 @@ fn no_hole_here(a: u32) -> u32 {
 }
 """
 
+
+HEADS = {
+    "impl Word": "Word",
+    "impl<'b, F> Fields<'b, F>": "Fields",
+    "impl Entry<Listed> for Word": "WordEntryListed",
+    "impl Entry<Option<Listed>> for Word": "WordEntryOptionListed",
+    "impl<'h> Plain for &'h Word": "RefWordPlain",
+    "impl<'n, N: Entry<Item = Listed>> Entry<u8> for &'n N": "RefEntryU8",
+    "impl<'a> Lent<'a> for &'a Word": "RefWordLent",
+    "impl<T> Plain for Option<T>": "OptionPlain",
+    "impl Entry<u8> for Option<Word>": "OptionWordEntryU8",
+    "impl<T: Drop> From<AllocFailed<T>> for Fault": "FaultFromAllocFailed",
+    "impl fmt::Display for Fault": "FaultDisplay",
+}
 
 BLANKET = """impl<S: Start> Of for S {
     fn one() -> u8 {
@@ -278,9 +292,23 @@ class Edits(WithProver):
         self.assertEqual(self.look_at_texts(good), ("4 passed, 0 failed\n", 0))
 
     def test_names(self) -> None:
-        """A check names a function of an implementation for every type by `Any` and the trait."""
+        """Functions of implementations, as a check with the prover named them."""
         names = [it.path_in("src/lib.rt") for it in module_of_edits().functions_of(BLANKET)]
         self.assertEqual(names, ["AnyOf::one", "PairOf::one"])
+        for head, name in HEADS.items():
+            text = f"{head} {{\n    fn put(&self) -> u8 {{\n        1\n    }}\n}}\n"
+            (found,) = module_of_edits().functions_of(text)
+            self.assertEqual((found.path_in("src/lib.rt"), found.is_alone), (f"{name}::put", " for " not in head))
+
+    def test_what_checks_keep(self) -> None:
+        """The checks of a crate have one folder, which is gone once another crate is tried."""
+        kept = module_of_edits().Kept()
+        low = Path(kept.of("low"))
+        (low / "proved").touch()
+        self.assertEqual(kept.of("low"), str(low))
+        self.assertTrue((low / "proved").exists())
+        self.assertNotEqual(kept.of("high"), str(low))
+        self.assertFalse(low.exists())
 
     def test_namesakes(self) -> None:
         """A copy of a function calls the copy of itself, and as before a function of another type that has its name."""
