@@ -183,6 +183,8 @@ class Folder(SmallSteps):
         self.assertEqual(why("echo one", "echo no room", "exit 1"), "no container can be started: no room")
         self.assertEqual(why("echo 'E: Failed to fetch a list'", "echo all is over", "exit 1"),
                          "no container can be started, mmdebstrap has no network: E: Failed to fetch a list")
+        with mock.patch("portal_runner.machine.PROBE_SECONDS", 0.2):
+            self.assertEqual(why("sleep 5"), "no container can be started: not within 0 minutes")
         self.assertEqual(Machine(self.table().repository, {}).probe("container"), "")
 
     def test_what_belongs_to_the_machine(self) -> None:

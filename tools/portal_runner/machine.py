@@ -137,16 +137,19 @@ class Machine:
         """Why machines of a kind cannot be started here, or nothing; it is tried, which makes their bases."""
         if kind not in self.probes:
             return ""
-        ran = subprocess.run(
-            self.probes[kind],
-            cwd=self.top,
-            stdin=subprocess.DEVNULL,
-            stdout=subprocess.PIPE,
-            stderr=subprocess.STDOUT,
-            text=True,
-            errors="replace",
-            timeout=PROBE_SECONDS,
-        )
+        try:
+            ran = subprocess.run(
+                self.probes[kind],
+                cwd=self.top,
+                stdin=subprocess.DEVNULL,
+                stdout=subprocess.PIPE,
+                stderr=subprocess.STDOUT,
+                text=True,
+                errors="replace",
+                timeout=PROBE_SECONDS,
+            )
+        except subprocess.TimeoutExpired:
+            return f"no {kind} can be started: not within {PROBE_SECONDS / 60:.0f} minutes"
         if ran.returncode == 0:
             return ""
         lines = ran.stdout.splitlines() or [""]
