@@ -1,4 +1,4 @@
-"""A store of schema version 1 that is adopted while memory is wanting, in one process. One test of portal_tests adopts it, again
+"""A store of schema version 1 that is adopted while memory is wanting, in one process. One test of portal_tests_storage adopts it, again
 and again over the connection that is returned, and looks at what stands there in the end. Some of its requests for memory are refused
 alone; then some of those that are made while the store is adopted, each with some of those that the next try makes.
 

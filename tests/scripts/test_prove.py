@@ -14,7 +14,7 @@ from small_tree import TOP, put
 
 RT = """#!/usr/bin/env bash
 [[ $1 != version ]] || { echo 'kit one' && exit; }
-mkdir -p crates/portal/out crates/portal_tests/out
+mkdir -p crates/portal/out crates/portal_tests_storage/out
 echo 'the program' >crates/portal/out/portal
 echo 'rt: portal proved'
 [[ ! -f does ]] || source does

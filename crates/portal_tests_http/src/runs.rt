@@ -1,8 +1,8 @@
 //! One run of 202 requests: a batch of a hundred codes, each sold and redeemed by one device.
-use crate::day::PLANS;
-use crate::desks::answers_in_memory;
-use crate::requests::{DESK, GUEST, REQUEST, request};
 use portal_http::exchanges::status_in;
+use portal_tests_desks::day::PLANS;
+use portal_tests_desks::desks::answers_in_memory;
+use portal_tests_desks::requests::{DESK, GUEST, REQUEST, request};
 use std::alloc::Global;
 use std::str;
 

@@ -1,13 +1,13 @@
 //! The program over its arguments, a reader and two writers: its output, and its exit code.
-use crate::desks::InMemory;
 use crate::places::{TestNetwork, good_shelf};
-use crate::requests::{CAPTIVE, MOMENT, REQUEST};
 use portal_commands::answering::{AnswerOptions, answer};
 use portal_commands::place::Place;
 use portal_commands::program::run_program;
 use portal_commands::trouble::Trouble;
 use portal_commands::words::words_of;
 use portal_server::ProgramError;
+use portal_tests_desks::desks::InMemory;
+use portal_tests_desks::requests::{CAPTIVE, MOMENT, REQUEST};
 use std::alloc::Global;
 use std::env::{Env, FillError};
 use std::io::{self, Error, ErrorKind, Read, Write};

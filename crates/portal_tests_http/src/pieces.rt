@@ -1,10 +1,12 @@
 //! Requests that come in pieces, and whose reads or writes fail. They are answered as whole ones are; before
 //! the last read nothing is carried out; and if a write fails, the command is committed all the same.
-use crate::day::{COMMANDS, SentRequest, build_day, build_requests};
-use crate::desks::{answer, exchange_in_memory};
-use crate::exchanges::{ExchangeResult, Peer, is_done, is_unread, is_unsent, whole_peer};
-use crate::requests::MOMENT;
 use portal_http::exchanges::status_in;
+use portal_tests_desks::day::{COMMANDS, SentRequest, build_day, build_requests};
+use portal_tests_desks::desks::{answer, exchange_in_memory};
+use portal_tests_desks::exchanges::{
+    ExchangeResult, Peer, is_done, is_unread, is_unsent, whole_peer,
+};
+use portal_tests_desks::requests::MOMENT;
 use std::alloc::Global;
 
 /// Checks that the exchange ended with a whole response that ends with this text.

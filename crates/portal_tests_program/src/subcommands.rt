@@ -1,7 +1,5 @@
 //! The subcommands over a place: which error comes first, what is printed, and the exit code.
-use crate::desks::InMemory;
 use crate::places::{FILES, NEW, SETTINGS, STUCK, Shelf, TestNetwork, good_shelf};
-use crate::requests::{CAPTIVE, MOMENT};
 use portal_commands::answering::{AnswerOptions, answer, answer_at};
 use portal_commands::checking::{check, check_at};
 use portal_commands::place::{Files, Place};
@@ -12,6 +10,8 @@ use portal_desk::Desk;
 use portal_http_routes::Routes;
 use portal_model::moment::Moment;
 use portal_server::ProgramError;
+use portal_tests_desks::desks::InMemory;
+use portal_tests_desks::requests::{CAPTIVE, MOMENT};
 use std::alloc::Global;
 
 const REQUEST: &str =

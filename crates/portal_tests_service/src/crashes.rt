@@ -2,12 +2,14 @@
 //! each schema version, from the opening of the files to their closing. The files are opened again, also with
 //! a further crash, and the day goes on: they hold the requests that were accepted, or one more, whole. If
 //! the files were closed, the database file alone holds that.
-use crate::day::{COMMANDS, SentRequest, build_questions, build_requests};
 use crate::disks::{CrashResult, InFiles};
 use crate::files::{AT_END, CrashPoint, Image, Part};
 use crate::jobs::{Job, JobResult};
-use crate::versions::{COUNTERS, FIFTH, FIRST, FOURTH, REQUEST, ROWS, SECOND, THIRD};
 use portal_tables::errors::OpenFault;
+use portal_tests_desks::day::{COMMANDS, SentRequest, build_questions, build_requests};
+use portal_tests_storage::versions::{
+    COUNTERS, FIFTH, FIRST, FOURTH, REQUEST, ROWS, SECOND, THIRD,
+};
 use std::alloc::Global;
 use std::process::Abort;
 use std::test::Fail;

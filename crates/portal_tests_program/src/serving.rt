@@ -2,13 +2,14 @@
 //! for the machine; and a port that is taken.
 ghost use Rattle.std.specs.Prelude.{⊤};
 
-use crate::desks::serve_in_memory;
-use crate::exchanges::{Sender, Taker, new_sender, new_taker};
-use crate::requests::{BAD_REQUEST, CAPTIVE, MOMENT, REQUEST};
+use portal_commands::place::Place;
 use portal_desk::Desk;
 use portal_http_routes::Routes;
 use portal_model::moment::Moment;
 use portal_server::{Host, ProgramError, bind_loopback, fresh_seed, moment_now, serve};
+use portal_tests_desks::desks::{InMemory, new_desk};
+use portal_tests_desks::exchanges::{Sender, Taker, new_sender, new_taker};
+use portal_tests_desks::requests::{BAD_REQUEST, CAPTIVE, MOMENT, REQUEST};
 use std::alloc::Global;
 use std::io::{self, ErrorKind, Write};
 use std::random::RandomSource;
@@ -104,7 +105,7 @@ fn new_script(alloc: Global, peers: &[Peer], clock: Result<(), ProgramError>) ->
 }
 
 /// Serves connections at port 8080. Returns the exit code and the errors that were printed.
-pub fn serve_with_errors<D: Desk, H: Host, W: Write>(
+fn serve_with_errors<D: Desk, H: Host, W: Write>(
     alloc: Global,
     desk: &mut D,
     host: &mut H,
@@ -115,6 +116,29 @@ pub fn serve_with_errors<D: Desk, H: Host, W: Write>(
     let mut errors = Vec::new(alloc);
     let status = serve(alloc, desk, &routes, host, 8080, count, output, &mut errors);
     Some((status, errors))
+}
+
+/// Serves connections of a host by a new desk. Returns the exit code and the errors that were printed.
+fn serve_new_desk<P: Place, H: Host, W: Write>(
+    alloc: Global,
+    host: &mut H,
+    count: u64,
+    output: &mut W,
+) -> Option<(u8, Vec<u8>)> {
+    let mut desk = new_desk::<P>(alloc)?;
+    let ended = serve_with_errors(alloc, &mut desk, host, count, output);
+    P::close_desk_in_memory(desk);
+    ended
+}
+
+/// Serves connections of a host by a new desk. Returns the exit code and the errors that were printed.
+fn serve_in_memory<H: Host, W: Write>(
+    alloc: Global,
+    host: &mut H,
+    count: u64,
+    output: &mut W,
+) -> Option<(u8, Vec<u8>)> {
+    serve_new_desk::<InMemory, H, W>(alloc, host, count, output)
 }
 
 /// The end of serving: the exit code, how often a connection was asked for, the bytes that clients were sent,

@@ -1,32 +1,22 @@
-//! Desks over new databases in memory: their answers, exchanges with them, serving by them, and a desk that
-//! has stopped.
+//! Desks over new databases in memory: their answers, and exchanges with them.
 //!
 //! All of it is generic over the desks of a place. Only `InMemory` and the last functions name the database.
 ghost use Rattle.std.specs.Prelude.{⊤};
 ghost use Rattle.portal_os.specs.Laws.{memory_desk_is_fault_free};
 
-use crate::day::{PLANS, build_questions};
 use crate::exchanges::{ExchangeResult, Peer, exchange_with_peer, exchange_with_peers, whole_peer};
-use crate::requests::{DESK, MOMENT, NO_ROUTE, REQUEST, STOPPED, UNROUTED, request};
-use crate::{serving, subcommands};
-use portal_codes::Code;
+use crate::requests::{MOMENT, NO_ROUTE, REQUEST, STOPPED, UNROUTED};
 use portal_commands::place::{Place, Purpose};
 use portal_commands::trouble::Trouble;
 use portal_desk::Desk;
-use portal_desk::prepared::Prepared;
 use portal_desk_store::StoreDesk;
 use portal_files::{Settings, sample_settings};
 use portal_http::{Arrival, run};
 use portal_http_routes::Routes;
-use portal_model::command::Command;
-use portal_model::moment::Moment;
-use portal_model::name::Device;
-use portal_model::refusal::Refusal;
 use portal_os::HostFiles;
-use portal_server::{Host, ProgramError};
+use portal_server::ProgramError;
 use sqlite::{MemStore, Unknown};
 use std::alloc::Global;
-use std::io::Write;
 
 /// The program's desks in memory, as a place without files.
 #[derive(Drop)]
@@ -91,13 +81,13 @@ impl Place for InMemory {
 }
 
 /// Opens a desk over an empty database, with the sample settings.
-fn new_desk<P: Place>(alloc: Global) -> Option<P::Fresh> {
+pub fn new_desk<P: Place>(alloc: Global) -> Option<P::Fresh> {
     let settings = sample_settings(alloc).ok()?;
     P::open_desk_in_memory(alloc, settings).ok()
 }
 
 /// Builds requests as they arrive, each at its time.
-fn build_arrivals(alloc: Global, requests: &[(u64, &[u8])]) -> Option<Vec<Arrival>> {
+pub fn build_arrivals(alloc: Global, requests: &[(u64, &[u8])]) -> Option<Vec<Arrival>> {
     let mut arrivals = Vec::new(alloc);
     for (at, request) in requests {
         let bytes = request.to_vec(alloc).ok()?;
@@ -107,7 +97,11 @@ fn build_arrivals(alloc: Global, requests: &[(u64, &[u8])]) -> Option<Vec<Arriva
 }
 
 /// Returns the responses of the desk to requests that arrive one after another.
-fn answers_of<D: Desk>(alloc: Global, desk: &mut D, arrivals: &[Arrival]) -> Option<Vec<Vec<u8>>> {
+pub fn answers_of<D: Desk>(
+    alloc: Global,
+    desk: &mut D,
+    arrivals: &[Arrival],
+) -> Option<Vec<Vec<u8>>> {
     let routes = Routes::new(alloc).ok()?;
     let mut out = Vec::new(alloc);
     run(alloc, desk, &routes, arrivals, &mut out).ok()?;
@@ -133,61 +127,6 @@ fn exchange_at<P: Place>(alloc: Global, peers: &[Peer<'_>]) -> Option<Vec<Exchan
     let met = exchange_with_peers(alloc, &mut desk, peers);
     P::close_desk_in_memory(desk);
     met
-}
-
-/// Serves connections of a host by a new desk. Returns the exit code and the errors that were printed.
-fn serve_new_desk<P: Place, H: Host, W: Write>(
-    alloc: Global,
-    host: &mut H,
-    count: u64,
-    output: &mut W,
-) -> Option<(u8, Vec<u8>)> {
-    let mut desk = new_desk::<P>(alloc)?;
-    let ended = serving::serve_with_errors(alloc, &mut desk, host, count, output);
-    P::close_desk_in_memory(desk);
-    ended
-}
-
-/// One voucher of the plan `hour`.
-const BATCH: &[u8] = b"{\"batch\":\"b1\",\"plan\":\"hour\",\"count\":1}";
-
-/// Its code, by the seed of each request of `build_arrivals`.
-const CODE: &str = "3N55-WA4S-KH5V-JR49";
-
-const SALE: &[u8] = b"{\"code\":\"3N55-WA4S-KH5V-JR49\"}";
-
-/// Loads the plans, issues the voucher, and sells it. Returns how many responses came.
-fn sell_voucher<D: Desk>(alloc: Global, desk: &mut D) -> Option<usize> {
-    let plans = request(alloc, "POST /desk/plans", DESK, PLANS.as_bytes())?;
-    let batch = request(alloc, "POST /desk/batches", DESK, BATCH)?;
-    let sale = request(alloc, "POST /desk/sales", DESK, SALE)?;
-    let requests: [(u64, &[u8]); 3] = [
-        (0, plans.as_slice()),
-        (1000, batch.as_slice()),
-        (1000, sale.as_slice()),
-    ];
-    let arrivals = build_arrivals(alloc, requests.as_slice())?;
-    Some(answers_of(alloc, desk, arrivals.as_slice())?.len())
-}
-
-/// Prepares the redemption of the voucher, without the commit.
-fn prepare_redemption<D: Desk>(alloc: Global, desk: &mut D) -> Option<Prepared> {
-    let moment = Moment::new(1000)?;
-    let device = Device::read("02:00:00:00:00:01").ok()?;
-    let code = Code::read(CODE).ok()?;
-    desk.prepare(alloc, moment, Command::Redeem { device, code })
-        .ok()
-}
-
-/// Checks that the desk stops if the same redemption is prepared twice and committed twice: the database
-/// already has a session of that number.
-fn stops_after_duplicate<D: Desk>(alloc: Global, desk: &mut D) -> Option<bool> {
-    let count = sell_voucher(alloc, desk)?;
-    let first = prepare_redemption(alloc, desk)?;
-    let second = prepare_redemption(alloc, desk)?;
-    let is_kept = desk.finish(first).is_ok();
-    let is_refused = desk.finish(second).err() == Some(Refusal::Stopped);
-    Some(count == 3 && is_kept && is_refused && desk.is_stopped())
 }
 
 /// Checks that the desk answers the request with exactly this response.
@@ -220,36 +159,6 @@ pub fn is_refused_by_stopped<D: Desk>(
     Some(is_refused && is_guest_refused && is_unrouted && desk.is_stopped())
 }
 
-/// Checks that a desk that has stopped answers each question with `stopped`.
-fn are_refused_by_stopped<D: Desk>(alloc: Global, desk: &mut D) -> Option<bool> {
-    let routes = Routes::new(alloc).ok()?;
-    for sent in &build_questions(alloc)? {
-        let peer = whole_peer(sent.at, sent.bytes.as_slice(), 80_000);
-        if !is_refused_by_stopped(alloc, desk, &routes, &peer)? {
-            return Some(false);
-        }
-    }
-    Some(true)
-}
-
-/// Stops the desk, and checks that serving by it ends, and that each question and each subcommand gives
-/// `stopped`.
-fn stopped_desk_answers_stopped<D: Desk>(alloc: Global, desk: &mut D) -> Option<bool> {
-    let is_stopped = stops_after_duplicate(alloc, desk)?;
-    let is_answered = are_refused_by_stopped(alloc, desk)?;
-    let is_served = serving::stopped_desk_ends_serve(alloc, desk)?;
-    let is_said = subcommands::subcommands_print_stopped(alloc, desk)?;
-    Some(is_stopped && is_answered && is_served && is_said)
-}
-
-/// Checks the same for a new desk of a place.
-fn is_stop_reported_at<P: Place>(alloc: Global) -> Option<bool> {
-    let mut desk = new_desk::<P>(alloc)?;
-    let is_told = stopped_desk_answers_stopped(alloc, &mut desk);
-    P::close_desk_in_memory(desk);
-    is_told
-}
-
 /// Returns the responses of a new desk to requests that arrive in one run, after others in a run before it.
 pub fn answers_in_memory(
     alloc: Global,
@@ -269,20 +178,4 @@ pub fn answer(alloc: Global, request: &[u8]) -> Option<Vec<u8>> {
 /// Makes an exchange of a new desk with each client, in their order.
 pub fn exchange_in_memory(alloc: Global, peers: &[Peer<'_>]) -> Option<Vec<ExchangeResult>> {
     exchange_at::<InMemory>(alloc, peers)
-}
-
-/// Serves connections of a host by a new desk. Returns the exit code and the errors that were printed.
-pub fn serve_in_memory<H: Host, W: Write>(
-    alloc: Global,
-    host: &mut H,
-    count: u64,
-    output: &mut W,
-) -> Option<(u8, Vec<u8>)> {
-    serve_new_desk::<InMemory, H, W>(alloc, host, count, output)
-}
-
-/// Serving ends if the desk has stopped, and each request and each subcommand gives `stopped`.
-#[test]
-fn stopped_desk(rt: HostRuntime) {
-    assert!(rt; is_stop_reported_at::<InMemory>(rt.alloc()) == Some(true));
 }

@@ -1,8 +1,4 @@
 //! Jobs on a database in files, which is closed after each. A desk is closed as the program closes it.
-use crate::day::SentRequest;
-use crate::desks::is_refused_by_stopped;
-use crate::exchanges::{exchange_with_peer, whole_peer};
-use crate::sql::{dump_database, execute_all};
 use portal_desk::Desk;
 use portal_desk_store::StoreDesk;
 use portal_files::{Settings, sample_settings};
@@ -12,6 +8,10 @@ use portal_model::refusal::Refusal;
 use portal_os::close_desk;
 use portal_tables::attaching::Refused;
 use portal_tables::errors::OpenFault;
+use portal_tests_desks::day::SentRequest;
+use portal_tests_desks::desks::is_refused_by_stopped;
+use portal_tests_desks::exchanges::{exchange_with_peer, whole_peer};
+use portal_tests_storage::sql::{dump_database, execute_all};
 use sqlite::{Connection, Error, FileStore, Files};
 use sqlite_disk::Disk;
 use std::alloc::Global;
