@@ -99,6 +99,16 @@ class Prove(Small):
             self.call("tests/prove", "--program")
             self.assert_ended(1, "4 passed, 1 failed")
 
+    @unittest.skipUnless(os.geteuid() == 0 and Path("/proc/self/autogroup").exists(), "root alone, and where Linux knows them")
+    def test_they_take_more_of_the_processors(self) -> None:
+        """In a session of their own; a shell's, where somebody types the command, stays as it is."""
+        self.does("does", "cat /proc/self/autogroup >>ran")
+        for is_own, last in ((True, "nice -5"), (False, "nice 0")):
+            script = f"setsid -w bash -c '{'exec ' * is_own}tests/prove; true'"
+            subprocess.run(["bash", "-c", script], cwd=self.tree, env=self.env, stdout=subprocess.DEVNULL, check=True)
+            said = (self.tree / "ran").read_text().splitlines()[-1]
+            self.assertTrue(said.endswith(last), said)
+
     def test_adopting(self) -> None:
         self.call("tests/prove", "--adopting")
         self.assert_ended(0, "5 passed, 0 failed")

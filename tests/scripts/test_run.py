@@ -174,6 +174,11 @@ class Folder(SmallSteps):
         self.assertEqual(set(found) - {"_", "PWD", "SHLVL", "0022"}, {"PATH", "HOME", "TMPDIR", "LANG", "PYTHONDONTWRITEBYTECODE"})
         self.assertTrue(found["TMPDIR"].startswith(f"{self.room}/portal-test."))
 
+    def test_a_step_has_a_session_of_its_own(self) -> None:
+        self.does("quick", f"read -r process _ _ _ group session _ </proc/$$/stat; echo $process $group $session >'{self.room}/numbers'")
+        self.call()
+        self.assertEqual(len(set((self.room / "numbers").read_text().split())), 1)
+
     def test_machines_that_cannot_be_started(self) -> None:
         def why(*lines: str) -> str:
             put(self.tree / "tests/base", "\n".join(["#!/bin/sh", *lines]))

@@ -1,4 +1,5 @@
-"""Processes in groups of their own, so that each can be stopped with all that it started."""
+"""Processes in sessions of their own, so that each can be stopped with all that it started, and Linux shares
+the processors among them (sched(7), autogroup)."""
 
 from __future__ import annotations
 
@@ -31,7 +32,8 @@ class Groups:
             if self.is_stopped:
                 raise InterruptedError("stopped")
             process: subprocess.Popen[str]
-            process = subprocess.Popen(words, process_group=0, encoding="utf-8", errors="replace", **more)
+            more |= {"start_new_session": True, "encoding": "utf-8", "errors": "replace"}
+            process = subprocess.Popen(words, **more)
             self.running[process.pid] = process
         return process
 

@@ -63,7 +63,7 @@ class Report:
         return max(1.0, fixed_work() / of_budgets) if of_budgets else 1.0
 
     def take(self, step: Step, ran: Ran, budget: float = 0.0) -> bool:
-        """Says how a step ended, and whether it passed; it must not take its budget three times, if it has one."""
+        """Says how a step ended, and whether it passed; with a budget it must not take it three times."""
         faults = self.over(step, ran.processor, budget)
         for line in ran.result.passed_over():
             if not self.reasons.holds(line):
