@@ -143,10 +143,11 @@ class History:
                 Case(lambda: "vouchers", "Issue", "20 codes", "It is not a new one.")]
 
     def takings(self) -> tuple[int, int]:
-        """What the server sold and refunded today, in hundredths."""
-        today = str(datetime.datetime.now(datetime.timezone.utc).date())
-        day, = self.venue.counter.days(today, today)
-        return day.sales, day.refunds
+        """What the server sold and refunded from yesterday to tomorrow, in hundredths: a test may run over
+        midnight."""
+        today, day = datetime.datetime.now(datetime.timezone.utc).date(), datetime.timedelta(days=1)
+        days = self.venue.counter.days(str(today - day), str(today + day))
+        return sum(it.sales for it in days), sum(it.refunds for it in days)
 
     def expect(self, kind: str, words: str) -> None:
         """Of the notice of the page that is open: its kind, and what it says."""
