@@ -33,7 +33,7 @@ use Rattle.portal_server.proofs.ServingLemmas.{Run-append, run_served}
 use Rattle.portal_commands.specs.Answering.{IsAnswered, EndsAnswer}
 use Rattle.portal_commands.specs.Asking.{AsksOver, PrintsBatch, PrintsTakingsOver, PrintsTakingsFrom}
 use Rattle.portal_commands.specs.Asking.{ChecksCounters}
-use Rattle.portal_commands.specs.Places.{PlaceValue, ByDesk}
+use Rattle.portal_commands.specs.Places.{PlaceValue, ByDesk, FailsAtPlace, FailsToOpen, IsForMemory}
 use Rattle.portal_commands.specs.Program.{EndsOrder, EndsProgram, EndsServing, outlets_of, files_of}
 use Rattle.portal_commands.specs.Serving.{NetworkValue, ServesAt}
 use Rattle.portal_commands.specs.declared.answering.AnswerOptions.{AnswerOptions}
@@ -41,9 +41,11 @@ use Rattle.portal_commands.specs.declared.place.Files.{Files}
 use Rattle.portal_commands.specs.declared.place.Purpose.{Purpose}
 use Rattle.portal_commands.specs.declared.place.Purpose.TheVariants.{Serve, Answer, Ask}
 use Rattle.portal_commands.specs.declared.serving.ServeOptions.{ServeOptions}
+use Rattle.portal_commands.specs.declared.trouble.Trouble.{Trouble}
 use Rattle.portal_commands.specs.Served.{Served, none_served, served_before_cut, served_in_exchange}
 use Rattle.portal_commands.specs.Served.{served_in_turn, served_in_turns, served_until, served_after_line}
 use Rattle.portal_commands.specs.Served.{served_by_turns, served_at}
+use Rattle.portal_commands.specs.Sessions.{FailsKeeps, AnswerFailsKeeps}
 use Rattle.portal_commands.specs.Sessions.{DeskKeeps, AsksBy, AnswersBy, AsksKeeps, TakingsKeeps}
 use Rattle.portal_commands.specs.Sessions.{AnsweredKeeps, AnswerKeeps, ServingKeeps, OrderKeeps, ProgramKeeps}
 use Rattle.portal_commands.specs.Sessions.{RunsKeep}
@@ -214,12 +216,24 @@ module _ (place : PlaceValue) where
       let left = led.2 tables may in
       (left.0, left.2, left.3, kept printed L led.0 led.3 left.0 left.1)
 
+  fails_keep : (files : Files) (purpose : Purpose) (trouble : Trouble)
+      (fails : FailsAtPlace place files purpose trouble) → FailsKeeps place files purpose trouble fails
+  fails_keep files purpose trouble (inl unread) = tt
+  fails_keep files purpose trouble (inr (names, error, (left, refuses, keeps), read)) = keeps
+
+  answer_fails_keep : (path : List ℕ) (trouble : Trouble)
+      (fails : IsForMemory trouble
+      ⊎ FailsToOpen place.refuses place.holds_ledger place.still_holds path Answer trouble)
+      → AnswerFailsKeeps place path trouble fails
+  answer_fails_keep path trouble (inl memory) = tt
+  answer_fails_keep path trouble (inr (left, refuses, keeps)) = keeps
+
   asks_keep : (files : Files) (Tells : SettingsValue → State → Result Output ProgramError → State → Type 0)
       (o : Outlets) (status : ℕ) (asks : AsksOver place files Tells o status)
       → ((settings : SettingsValue) (L : Ledger) (printout : Result Output ProgramError) (new : State)
       → Tells settings (running L) printout new → Asked L new)
       → AsksKeeps place files Tells o status asks
-  asks_keep files Tells o status (inl fails) asked = tt
+  asks_keep files Tells o status (inl (trouble, fails, ends)) asked = fails_keep files Ask trouble fails
   asks_keep files Tells o status (inr (settings, read, by)) asked =
       desk_keeps {Does = AsksBy Tells settings o status} files.db.now Ask o.errors_after settings
       (λ printed old new does. none_served) by
@@ -248,7 +262,13 @@ module _ (place : PlaceValue) where
       (λ printed L new does found may. run_keeps settings L (served_in_exchange wire moment seed
       (λ arrivals responses. ServesInOrder settings (running L) arrivals responses new) does.1.0 does.1.1)
       new found (exchange_ran settings wire moment seed (running L) new does.1.0 does.1.1) may)
-  answered_keeps wire errors errors_after moment seed (Some path) settings status (inr fails) = tt
+  answered_keeps wire errors errors_after moment seed (Some path) settings status (inr (
+    trouble,
+    names,
+    fails,
+    ends,
+  )) =
+      answer_fails_keep path.now trouble fails
 
   answer_keeps : (wire : Wire) (errors errors_after : Option (List ℕ)) (request : AnswerOptions) (status : ℕ)
       (answers : EndsAnswer place wire errors errors_after request status)
@@ -266,7 +286,8 @@ module _ (place : PlaceValue) where
         (serves : EndsServing place files network port count o status)
         → ServingKeeps place network files port count o status serves
     serving_keeps files port count o status (inl usage) = tt
-    serving_keeps files port count o status (inr (fits, inl fails)) = tt
+    serving_keeps files port count o status (inr (fits, inl (trouble, fails, ends))) =
+        fails_keep files Serve trouble fails
     serving_keeps files port count o status (inr (fits, inr (settings, read, runs, by))) =
         let at : ServeOptions = record { port = port; count = count } in
         desk_keeps files.db.now Serve o.errors_after settings

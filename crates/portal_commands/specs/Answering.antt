@@ -24,7 +24,7 @@ use Rattle.portal_commands.specs.declared.causes.UsageFault.TheVariants.{Now, Se
 use Rattle.portal_commands.specs.declared.place.Purpose.TheVariants.{Answer}
 use Rattle.portal_commands.specs.declared.trouble.Trouble.{Trouble}
 use Rattle.portal_commands.specs.Places.{IsFileError, IsDatabaseError, IsForMemory, PlaceValue}
-use Rattle.portal_commands.specs.Places.{AreReadSettings, IsNotRead, ByDesk}
+use Rattle.portal_commands.specs.Places.{AreReadSettings, FailsToOpen, IsNotRead, ByDesk}
 use Rattle.portal_commands.specs.Troubles.{IsOutOfRange, NamesPath, Reports}
 
 -- 0 after 200, 3 after the 503 of a desk that has stopped, 1 after any other status.
@@ -94,7 +94,8 @@ AnswersStored place path wire errors errors_after moment seed settings status =
     (is_stopped_state new) answered
     × EndsStatus answered errors printed status)
     ⊎ ((trouble : Trouble) × (IsDatabaseError trouble.error × NamesPath path trouble)
-    × (IsForMemory trouble ⊎ ((left : place.Left) × place.refuses left path Answer trouble))
+    × (IsForMemory trouble
+    ⊎ FailsToOpen place.refuses place.holds_ledger place.still_holds path Answer trouble)
     × EndsBeforeReading wire errors errors_after trouble status)
 
 -- With a database file or without one.

@@ -28,7 +28,7 @@ use Rattle.portal_commands.specs.declared.asking.DeskQuestion.TheVariants.{Batch
 use Rattle.portal_commands.specs.declared.causes.UsageFault.{UsageFault}
 use Rattle.portal_commands.specs.declared.causes.UsageFault.TheVariants.{From, To, Days}
 use Rattle.portal_commands.specs.declared.trouble.Trouble.{Trouble}
-use Rattle.portal_commands.specs.Places.{PlaceValue, AreReadSettings, ByDesk, Closes, FailsBeforeDesk}
+use Rattle.portal_commands.specs.Places.{PlaceValue, AreReadSettings, ByDesk, Closes, FailsAtPlace}
 use Rattle.portal_commands.specs.Troubles.{EndsTrouble, EndsUsage}
 
 -- The output of a desk, or a refusal as the error.
@@ -47,8 +47,7 @@ PrintsOutput Is o status = (printout : Result Output ProgramError) × Is printou
 abbrev pub AsksOver : PlaceValue → Files
     → (SettingsValue → State → Result Output ProgramError → State → Type 0) → Outlets → ℕ → Type 0
 AsksOver place files Tells o status =
-    ((trouble : Trouble) × FailsBeforeDesk place.reads place.fails_to_read place.refuses files Ask trouble
-    × EndsTrouble trouble o status)
+    ((trouble : Trouble) × FailsAtPlace place files Ask trouble × EndsTrouble trouble o status)
     ⊎ ((settings : SettingsValue) × AreReadSettings (place.reads files.settings.now) settings
     × ByDesk place files.db.now Ask o.errors_after
     (λ printed. (printout : Result Output ProgramError) × IsDeskResult printout
@@ -138,8 +137,7 @@ IsRight Counters audits printout = AuditIsRight audits printout
 -- desk is closed then.
 abbrev pub AsksRightly : PlaceValue → Files → DeskQuestion → Outlets → ℕ → Type 0
 AsksRightly place files question o status =
-    ((trouble : Trouble) × FailsBeforeDesk place.reads place.fails_to_read place.refuses files Ask trouble
-    × EndsTrouble trouble o status)
+    ((trouble : Trouble) × FailsAtPlace place files Ask trouble × EndsTrouble trouble o status)
     ⊎ ((before after : place.Desk) × (printed : Option (List ℕ)) × place.opens files.db.now Ask before
     × Closes place.closes place.fails_to_close after files.db.now printed o.errors_after
     × ((printout : Result Output ProgramError)

@@ -28,6 +28,7 @@ place_value place desk at = record {
   closes = place.closes;
   fails_to_read = place.fails_to_read at;
   refuses = place.refuses at;
+  still_holds = place.still_holds at;
   fails_to_close = place.fails_to_close;
   fails_to_make = place.fails_to_make;
 }

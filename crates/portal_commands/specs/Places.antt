@@ -44,11 +44,11 @@ AreRefused path reads trouble =
 
 -- What is assumed of a place. Of its files: which bytes may be read at a path, which ledger the file at a
 -- path holds, what is found there by an opening for a purpose, which desk was opened over it for that
--- purpose,
--- and with which errors a read or an open fails, the latter with what is left of the file. Of its desks:
--- whether a desk has been fault-free, what it represents, which answer of an audit is right, which tables are
--- its crash states, which ledger those hold, what is left after a close, and with which errors a close fails.
--- And with which errors the making of a database in memory fails.
+-- purpose, and with which errors a read or an open fails; after a failed open, what is left of the file, and
+-- which ledger that still holds, after a crash too. Of its desks: whether a desk has been fault-free, what it
+-- represents, which answer of an audit is right, which tables are its crash states, which ledger those hold,
+-- what is left after a close, and with which errors a close fails. And with which errors the making of a
+-- database in memory fails.
 pub record PlaceValue : Type 1 where
   pub Desk : Type 0
   pub Left : Type 0
@@ -65,6 +65,7 @@ pub record PlaceValue : Type 1 where
   pub closes : Desk → Left → Type 0
   pub fails_to_read : List ℕ → Trouble → Type 0
   pub refuses : Left → List ℕ → Purpose → Trouble → Type 0
+  pub still_holds : Left → List ℕ → Ledger → Type 0
   pub fails_to_close : Desk → Left → List ℕ → Trouble → Type 0
   pub fails_to_make : ProgramError → Type 0
 
@@ -107,12 +108,25 @@ IsNotRead path reads fails trouble =
     (IsFileError trouble.error × NamesPath path trouble × fails trouble)
     ⊎ (AreRefused path reads trouble ⊎ (IsForMemory trouble × ((bytes : List ℕ) × reads bytes)))
 
+-- The file at a path is not opened for a purpose; and what is left of it still holds, after a crash too, each
+-- ledger that the file held.
+abbrev pub FailsToOpen : {Left : Type 0} → (Left → List ℕ → Purpose → Trouble → Type 0)
+    → (List ℕ → Ledger → Type 0) → (Left → List ℕ → Ledger → Type 0) → List ℕ → Purpose → Trouble → Type 0
+FailsToOpen refuses holds_ledger still_holds path purpose trouble =
+    (left : _) × refuses left path purpose trouble
+    × ((L : Ledger) → holds_ledger path L → still_holds left path L)
+
 -- The settings file or the database file cannot be used: there are no settings; or there are, and the place
 -- does not open the database for this purpose.
-abbrev pub FailsBeforeDesk : {Left : Type 0} → (List ℕ → List ℕ → Type 0) → (List ℕ → Trouble → Type 0)
-    → (Left → List ℕ → Purpose → Trouble → Type 0) → Files → Purpose → Trouble → Type 0
-FailsBeforeDesk reads fails_to_read refuses files purpose trouble =
+abbrev pub FailsBeforeDesk : (List ℕ → List ℕ → Type 0) → (List ℕ → Trouble → Type 0)
+    → (List ℕ → Purpose → Trouble → Type 0) → Files → Purpose → Trouble → Type 0
+FailsBeforeDesk reads fails_to_read fails_to_open files purpose trouble =
     IsNotRead files.settings.now (reads files.settings.now) (fails_to_read files.settings.now) trouble
     ⊎ (NamesPath files.db.now trouble × IsDatabaseError trouble.error
-    × ((left : _) × refuses left files.db.now purpose trouble)
+    × fails_to_open files.db.now purpose trouble
     × ((settings : SettingsValue) × AreReadSettings (reads files.settings.now) settings))
+
+-- The same at a place.
+abbrev pub FailsAtPlace : PlaceValue → Files → Purpose → Trouble → Type 0
+FailsAtPlace place = FailsBeforeDesk place.reads place.fails_to_read
+    (FailsToOpen place.refuses place.holds_ledger place.still_holds)

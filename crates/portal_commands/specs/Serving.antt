@@ -12,7 +12,7 @@ use Rattle.portal_server.specs.Turns.{HostValue}
 use Rattle.portal_commands.specs.declared.place.Files.{Files}
 use Rattle.portal_commands.specs.declared.place.Purpose.TheVariants.{Serve}
 use Rattle.portal_commands.specs.declared.trouble.Trouble.{Trouble}
-use Rattle.portal_commands.specs.Places.{PlaceValue, AreReadSettings, ByDesk, FailsBeforeDesk, IsForMemory}
+use Rattle.portal_commands.specs.Places.{PlaceValue, AreReadSettings, ByDesk, FailsAtPlace, IsForMemory}
 use Rattle.portal_commands.specs.Troubles.{EndsTrouble, IsUnbound}
 
 -- Connections are served; or an error comes before: the port cannot be bound, or out of memory.
@@ -43,8 +43,7 @@ ServesAt network at settings o status old new =
 -- copied into the file.
 abbrev pub ServesOver : PlaceValue → Files → NetworkValue → ServeOptions → Outlets → ℕ → Type 0
 ServesOver place files network at o status =
-    ((trouble : Trouble) × FailsBeforeDesk place.reads place.fails_to_read place.refuses files Serve trouble
-    × EndsTrouble trouble o status)
+    ((trouble : Trouble) × FailsAtPlace place files Serve trouble × EndsTrouble trouble o status)
     ⊎ ((settings : SettingsValue) × AreReadSettings (place.reads files.settings.now) settings
     × ByDesk place files.db.now Serve o.errors_after
     (λ printed. IsServed at (record o { errors_after = printed }) status)

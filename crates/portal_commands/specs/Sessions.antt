@@ -1,6 +1,6 @@
 -- What a run of the program leaves of the database at a path, by what its contract tells of it.
 use Rattle.std.proofs.Common.{inl, inr}
-use Rattle.std.specs.Prelude.{ℕ, List, [], ◌∷◌, Option, Some, None, Result, Ok, Err, ⊤}
+use Rattle.std.specs.Prelude.{◌⊎◌, ℕ, List, [], ◌∷◌, Option, Some, None, Result, Ok, Err, ⊤}
 use Rattle.std.specs.Borrow.{Bor}
 use Rattle.portal_commands.specs.declared.order.Order.{Order}
 use Rattle.portal_commands.specs.declared.order.Order.TheVariants as order
@@ -18,13 +18,14 @@ use Rattle.portal_http.specs.Runs.{ServesInOrder}
 use Rattle.portal_commands.specs.Answering.{IsAnswered, EndsAnswer, EndsAnswering, EndsStatus}
 use Rattle.portal_commands.specs.Asking.{AsksOver, PrintsBatch, PrintsTakingsOver, PrintsTakingsFrom}
 use Rattle.portal_commands.specs.Asking.{ChecksCounters}
-use Rattle.portal_commands.specs.Places.{PlaceValue, ByDesk}
+use Rattle.portal_commands.specs.Places.{PlaceValue, ByDesk, FailsAtPlace, FailsToOpen, IsForMemory}
 use Rattle.portal_commands.specs.Program.{EndsOrder, EndsProgram, EndsServing, outlets_of, files_of}
 use Rattle.portal_commands.specs.Serving.{NetworkValue}
 use Rattle.portal_commands.specs.declared.answering.AnswerOptions.{AnswerOptions}
 use Rattle.portal_commands.specs.declared.place.Files.{Files}
 use Rattle.portal_commands.specs.declared.place.Purpose.{Purpose}
 use Rattle.portal_commands.specs.declared.place.Purpose.TheVariants.{Serve, Answer, Ask}
+use Rattle.portal_commands.specs.declared.trouble.Trouble.{Trouble}
 use Rattle.portal_commands.specs.Served.{Served, none_served, served_in_exchange, served_at}
 
 -- What the desk of a question does, and that of `answer`: as in `AsksOver` and `AnswersStored`.
@@ -68,18 +69,35 @@ module _ (place : PlaceValue) where
       (found : Ledger) × place.tables_hold_ledger tables found × IsSound found
       × IsKeptByExecution L (with_desk settings served.arrivals served.responses ∷ []) found
 
-  -- ---- by subcommand; a run that opened no desk has nothing to keep
+  -- What is left of a database file that was not opened still holds, after a crash too, each ledger that the
+  -- file held. A run that ends by its settings file opens no database.
+  abbrev pub FailsKeeps : (files : Files) (purpose : Purpose) (trouble : Trouble)
+      → FailsAtPlace place files purpose trouble → Type 0
+  FailsKeeps files purpose trouble (inl unread) = ⊤
+  FailsKeeps files purpose trouble (inr (names, error, (left, refuses, keeps), read)) =
+      (L : Ledger) → place.holds_ledger files.db.now L → place.still_holds left files.db.now L
+
+  -- The same for `answer`. Without memory before the opening, it opens no database.
+  abbrev pub AnswerFailsKeeps : (path : List ℕ) (trouble : Trouble)
+      → IsForMemory trouble
+      ⊎ FailsToOpen place.refuses place.holds_ledger place.still_holds path Answer trouble → Type 0
+  AnswerFailsKeeps path trouble (inl memory) = ⊤
+  AnswerFailsKeeps path trouble (inr (left, refuses, keeps)) =
+      (L : Ledger) → place.holds_ledger path L → place.still_holds left path L
+
+  -- ---- by subcommand
 
   abbrev pub AsksKeeps : (files : Files)
       (Tells : SettingsValue → State → Result Output ProgramError → State → Type 0) (o : Outlets) (status : ℕ)
       → AsksOver place files Tells o status → Type 0
-  AsksKeeps files Tells o status (inl fails) = ⊤
+  AsksKeeps files Tells o status (inl (trouble, fails, ends)) = FailsKeeps files Ask trouble fails
   AsksKeeps files Tells o status (inr (settings, read, by)) =
       DeskKeeps {Does = AsksBy Tells settings o status} files.db.now Ask o.errors_after settings
       (λ printed old new does. none_served) by
 
   abbrev pub TakingsKeeps : (files : Files) (from to : List ℕ) (o : Outlets) (status : ℕ)
       → PrintsTakingsFrom place files from to o status → Type 0
+  -- (ends by its words)
   TakingsKeeps files from to o status (inl usage) = ⊤
   TakingsKeeps files from to o status (inr (range, days, asks)) =
       AsksKeeps files (λ settings. PrintsTakingsOver settings.zone range) o status asks
@@ -87,6 +105,7 @@ module _ (place : PlaceValue) where
   abbrev pub AnsweredKeeps : (wire : Wire) (errors errors_after : Option (List ℕ)) (moment : ℕ)
       (seed : List ℕ) (db : Option (Bor (List ℕ))) (settings : SettingsValue) (status : ℕ)
       → IsAnswered place wire errors errors_after moment seed db settings status → Type 0
+  -- (names no database)
   AnsweredKeeps wire errors errors_after moment seed None settings status answered = ⊤
   AnsweredKeeps wire errors errors_after moment seed (Some path) settings status (inl by) =
       DeskKeeps {Does = AnswersBy wire errors moment seed settings status} path.now
@@ -94,10 +113,17 @@ module _ (place : PlaceValue) where
       (λ printed old new does. served_in_exchange wire moment seed
       (λ arrivals responses. ServesInOrder settings old arrivals responses new) does.1.0 does.1.1)
       by
-  AnsweredKeeps wire errors errors_after moment seed (Some path) settings status (inr fails) = ⊤
+  AnsweredKeeps wire errors errors_after moment seed (Some path) settings status (inr (
+    trouble,
+    names,
+    fails,
+    ends,
+  )) =
+      AnswerFailsKeeps path.now trouble fails
 
   abbrev pub AnswerKeeps : (wire : Wire) (errors errors_after : Option (List ℕ)) (request : AnswerOptions)
       (status : ℕ) → EndsAnswer place wire errors errors_after request status → Type 0
+  -- (ends by its words, or by its settings file)
   AnswerKeeps wire errors errors_after request status (inl usage) = ⊤
   AnswerKeeps wire errors errors_after request status (inr (within, inl unread)) = ⊤
   AnswerKeeps wire errors errors_after request status (inr (
@@ -109,8 +135,10 @@ module _ (place : PlaceValue) where
   module _ (network : NetworkValue) where
     abbrev pub ServingKeeps : (files : Files) (port count : ℕ) (o : Outlets) (status : ℕ)
         → EndsServing place files network port count o status → Type 0
+    -- (ends by its words)
     ServingKeeps files port count o status (inl usage) = ⊤
-    ServingKeeps files port count o status (inr (fits, inl fails)) = ⊤
+    ServingKeeps files port count o status (inr (fits, inl (trouble, fails, ends))) =
+        FailsKeeps files Serve trouble fails
     ServingKeeps files port count o status (inr (fits, inr (settings, read, runs, by))) =
         DeskKeeps files.db.now Serve o.errors_after settings
         (λ printed old new does. served_at network (record { port = port; count = count }) settings
@@ -137,6 +165,7 @@ module _ (place : PlaceValue) where
         (status : ℕ) → EndsProgram place network wire errors errors_after words status → Type 0
     ProgramKeeps wire errors errors_after words status (Ok given, (gives, ends)) =
         OrderKeeps wire errors errors_after given status ends
+    -- (ends by its words)
     ProgramKeeps wire errors errors_after words status (Err printout, printed) = ⊤
 
     -- Of every run of the program.

@@ -14,6 +14,7 @@ ghost use Rattle.portal_commands.specs.Places.{
   AreNone,
   Closes,
   FailsBeforeDesk,
+  FailsToOpen,
 };
 ghost use Rattle.portal_commands.specs.Troubles.{NamesPath};
 
@@ -69,6 +70,10 @@ pub trait Place: Drop {
     /// Which errors an open of the file at a path for a purpose gives, and what holds of what is left then.
     ghost refuses: { Self → Self.Left → List ℕ → For → Why → Type 0 };
 
+    /// Which ledger what is left of the file at a path, after an open that failed, still holds: as it is, and
+    /// after a crash.
+    ghost still_holds: { Self → Self.Left → List ℕ → Ledger → Type 0 };
+
     /// Which errors a close of a desk over the file at a path gives, and what holds of what is left then.
     ghost fails_to_close: { Self.Stored → Self.Left → List ℕ → Why → Type 0 };
 
@@ -84,7 +89,7 @@ pub trait Place: Drop {
     /// Opens a desk over the database file at a path. To serve or to answer, the database is made if there is
     /// none; to serve, its log is then copied into the file. Errors: `File`, also to ask where there is no
     /// database, and then nothing is made; `NoMemory`; `NotOurs`, if it holds tables of another program;
-    /// `Newer`, if a later version wrote it.
+    /// `Newer`, if a later version wrote it. What is left then still holds each ledger that the file held.
     fn open(
         self,
         alloc: Global,
@@ -94,6 +99,8 @@ pub trait Place: Drop {
     ) -> Result<Self::Stored, (Trouble, Self::Left)>
         ensures why { IfErr result (λ e. IsDatabaseError e.0.error × NamesPath path.now e.0) }
         ensures fails { IfErr result (λ e. refuses self e.1 path.now purpose e.0) }
+        ensures kept { (L : Ledger) → holds_ledger self path.now L
+            → IfErr result (λ e. still_holds self e.1 path.now L) }
         ensures same_settings { IfOk result (λ desk. Self.Stored.settings desk ≡ settings) }
         ensures opened { IfOk result (λ desk. opens self path.now purpose desk) }
         ensures represents { (L : Ledger) → holds_ledger self path.now L
@@ -160,7 +167,8 @@ pub fn open_desk<P: Place>(
     purpose: Purpose,
 ) -> Result<P::Stored, Trouble>
     ensures why { IfErr result
-        (FailsBeforeDesk (P.reads place) (P.fails_to_read place) (P.refuses place) files.entry purpose) }
+        (FailsBeforeDesk (P.reads place) (P.fails_to_read place)
+        (FailsToOpen (P.refuses place) (P.holds_ledger place) (P.still_holds place)) files.entry purpose) }
     ensures same_settings { IfOk result (λ desk.
         AreReadSettings (P.reads place files.entry.settings.now) (P.Stored.settings desk)) }
     ensures opened { IfOk result (λ desk. P.opens place files.entry.db.now purpose desk) }

@@ -125,7 +125,7 @@ module _ (size : ℕ) (image : Image) (pages : PageMap) (ignored : IsIgnored ima
       ∙ sound.header.0.size)
 
 -- the file names no size if it ends before that
-named_within : (db : List ℕ) → IsPageSize (size_in_file db) → 18 ≤ length db
+pub named_within : (db : List ℕ) → IsPageSize (size_in_file db) → 18 ≤ length db
 named_within db named = elim (cases_lt (length db) 18) [
   | inl short ↦ absurd (let none = rw (lt-ltb (length db) 18 short) at named.0 in omega (arith, none))
   | inr long ↦ long

@@ -2,9 +2,9 @@
 pub use Rattle.std.proofs.Common.{List, None, Option, Some, [], ap, ap₂, arith, false, inl, inr, length}
 pub use Rattle.std.proofs.Common.{rules, subst, subst₂, suc, sym, true, true≢false, zero, ℕ, ◌<◌, ◌∙◌, ◌∷◌}
 pub use Rattle.std.proofs.Common.{◌≡◌}
-pub use Rattle.std.specs.Prelude.{Bool, Err, IfErr, IfOk, IsErrAnd, IsTrue, Ok, Result}
+pub use Rattle.std.specs.Prelude.{Bool, Err, IfErr, IfOk, IsTrue, Ok, Result}
 pub use Rattle.portal_os.specs.Opening.{AreCommitted, AreCopied, AreWhole, ComesFrom, HoldsCommits}
-pub use Rattle.portal_os.specs.Opening.{IsAlone, OpensFiles}
+pub use Rattle.portal_os.specs.Opening.{IsAlone}
 pub use Rattle.portal_ledger.specs.Ledger.{Ledger}
 pub use Rattle.portal_tables.proofs.PathLemmas.{image}
 pub use Rattle.portal_tables.specs.Images.{ImageHoldsLedger}

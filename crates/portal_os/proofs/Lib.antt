@@ -4,4 +4,5 @@ pub mod CopyingLemmas
 pub mod OpeningLemmas
 pub mod ClosingLemmas
 pub mod ImageLemmas
+pub mod LeftLemmas
 pub mod LookingLemmas

@@ -1,14 +1,13 @@
 -- What holds of files that were opened, and opened again.
 use Rattle.std.proofs.Common.{refl}
 use Rattle.portal_os.proofs.Common.{◌≡◌, ◌∙◌, sym, subst, Bool, true, false, IsTrue, Result, Ok, Err, IfOk}
-use Rattle.portal_os.proofs.Common.{IsErrAnd, Image, ComesFrom, OpensFiles, IsCopied, Files, Ghosts, Held}
+use Rattle.portal_os.proofs.Common.{Image, ComesFrom, IsCopied, Files, Ghosts, Held}
 use Rattle.portal_os.proofs.Common.{AreFoundIn, file_state, image_of, over_files}
 use Rattle.sqlite.specs.Files.{Finds}
 use Rattle.sqlite_store.specs.declared.store.FileStore.{FileStore}
 use Rattle.sqlite.specs.State.{HasCleanDisk}
 use Rattle.sqlite.specs.Start.{FindsIn}
 use Rattle.sqlite_trees.specs.Tree.{Trees}
-use Rattle.portal_commands.specs.declared.place.Purpose.{Purpose}
 use Rattle.portal_desk_store.specs.Attaching.{IsConnOpen}
 use Rattle.portal_tables.specs.Images.{IsReopened}
 use Rattle.portal_tables.specs.TablesRepresent.{ConnIsFaultFree}
@@ -82,11 +81,3 @@ module _ {D : Type 0} {g : Ghosts D} where
             reads = subst (λ (db : Trees). AreFoundIn (image_of g files) db) (sym (same clean)) it.reads;
           }
   from_on (Err e) image copies needs first files honest same reopened found finds alone = tt
-
-  -- two files that were not opened
-  pub opens_not : {E : Type 0} (image : Image) (purpose : Purpose) (result : Result (Held (FileStore D g)) E)
-      (Q : E → Type 0) → IsErrAnd result Q
-      → OpensFiles image purpose result
-  opens_not image purpose (Ok conn) Q failed = absurd failed
-  opens_not image purpose (Err e) Q failed =
-      record { opened = λ L shown. tt; found = tt; from = tt; live = tt }

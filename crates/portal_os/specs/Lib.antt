@@ -2,5 +2,6 @@ pub mod Copying
 pub mod CrashImages
 pub mod Errors
 pub mod Laws
+pub mod Left
 pub mod Opening
 pub mod Running

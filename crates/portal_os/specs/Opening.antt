@@ -1,6 +1,6 @@
 -- What is inspected before a database file is opened, what opening it leads to, and what a close leaves.
 use Rattle.std.specs.Prelude.{◌≡◌, ◌≢◌, ◌⊎◌, ◌↔◌, ℕ, ◌/◌, ◌<◌, max, min, List, [], length, slice_index}
-use Rattle.std.specs.Prelude.{Bool, true, false, IsTrue, Result, IfOk}
+use Rattle.std.specs.Prelude.{Bool, true, false, IsTrue, Result, IfOk, ⊤}
 use Rattle.sqlite_disk.specs.declared.Disk.{Ghosts}
 use Rattle.sqlite_disk.specs.declared.Files.{Files as Pair}
 use Rattle.sqlite_disk.specs.Disk.{Only}
@@ -13,6 +13,7 @@ use Rattle.sqlite_trees.specs.declared.store.Store as stores
 use Rattle.sqlite.specs.Closing.{HoldsAlone}
 use Rattle.sqlite.specs.Files.{file_state, image_of, over_files}
 use Rattle.sqlite.specs.Held.{Held}
+use Rattle.sqlite.specs.declared.file.Leftover.{Leftover}
 use Rattle.sqlite.specs.Start.{FindsIn}
 use Rattle.sqlite.specs.State.{HasCleanDisk}
 use Rattle.portal_ledger.specs.Ledger.{Ledger}
@@ -30,9 +31,10 @@ use Rattle.portal_desk_store.specs.Attaching.{IsAsItWas, IsCause, IsSpared, MayB
 use Rattle.portal_desk_store.specs.declared.desks.StoreDesk.{StoreDesk}
 use Rattle.portal_desk_store.specs.DeskRepresents.{DeskRepresents, DeskIsFaultFree, IsCrashStateOfDesk}
 use Rattle.portal_os.specs.declared.remains.Remains.{Remains}
-use Rattle.portal_os.specs.declared.remains.Remains.TheVariants.{Nothing, Refused, Closed, Unclosed}
+use Rattle.portal_os.specs.declared.remains.Remains.TheVariants.{Nothing, Unopened, Refused, Closed, Unclosed}
 use Rattle.portal_os.specs.declared.opening_error.OpeningError.{OpeningError}
 use Rattle.portal_os.specs.Errors.{error_of_open, program_error_of}
+use Rattle.portal_os.specs.Left.{IsOf, LeavesOnly, WhileClean}
 
 -- Frames of a log with pages of this size are committed: the first are valid, and the last of those commits.
 abbrev pub AreCommitted : ℕ → List ℕ → Type 0
@@ -98,12 +100,25 @@ RefusesStore g conn left error =
     × ((L : Ledger) → ConnRepresents g conn L → (cause ≡ Memory) ⊎ (cause ≡ Store)))
 
 module _ {D : Type 0} {g : Ghosts D} where
-  -- Two files that held this image were not opened, and nothing is left; or their database was not attached,
-  -- which is tried only if it may be opened for this purpose, and the connection to it is left. The error is
-  -- the one that belongs to that. A database that holds a ledger is never called foreign or newer. One that
-  -- is not to be attached gets no crash state, and after all errors but `file` the database is as it was.
+  -- Two files that held this image were not opened or locked, and nothing is left; or they were not opened
+  -- as a database. If that may not be opened for this purpose, a crash leaves the files as they were.
+  abbrev pub RefusesToOpen : Image → Purpose → Remains D g → Type 0
+  RefusesToOpen image purpose Nothing = ⊤
+  RefusesToOpen image purpose (Unopened files) =
+      (left : Leftover D g) × IsOf left files
+      × (¬ IsFoundFor image purpose → WhileClean g (LeavesOnly image left))
+  RefusesToOpen image purpose (Refused left) = ⊥
+  RefusesToOpen image purpose (Closed files) = ⊥
+  RefusesToOpen image purpose (Unclosed store) = ⊥
+
+  -- Two files that held this image were not opened; or their database was not attached, which is tried only
+  -- if it may be opened for this purpose, and the connection to it is left. The error is the one that belongs
+  -- to that. A database that holds a ledger is never called foreign or newer. One that is not to be attached
+  -- gets no crash state, and after all errors but `file` the database is as it was.
   abbrev pub RefusesFiles : Image → Purpose → Remains D g → ProgramError → Type 0
   RefusesFiles image purpose Nothing error = (cause : OpeningError) × (error ≡ program_error_of cause)
+  RefusesFiles image purpose (Unopened files) error =
+      (cause : OpeningError) × (error ≡ program_error_of cause) × RefusesToOpen image purpose (Unopened files)
   RefusesFiles image purpose (Refused left) error =
       (cause : OpenFault) × (error ≡ error_of_open cause) × (conn : Held (FileStore D g))
       × (ConnIsFaultFree over_files left
@@ -182,6 +197,7 @@ module _ {D : Type 0} {g : Ghosts D} where
       AreClean g files.log files.db → AreCopied desk files
       × ((L : Ledger) → DeskRepresents over_files desk (running L) → AreWhole g files L)
   IsClosed desk Nothing = ⊥
+  IsClosed desk (Unopened files) = ⊥
   IsClosed desk (Refused conn) = ⊥
   IsClosed desk (Unclosed store) = ⊥
 
@@ -190,5 +206,6 @@ module _ {D : Type 0} {g : Ghosts D} where
   IsUnclosed desk (Unclosed store) =
       (tables : Tables) → IsCrashStateOfStore store tables → IsCrashStateOfDesk over_files desk tables
   IsUnclosed desk Nothing = ⊥
+  IsUnclosed desk (Unopened files) = ⊥
   IsUnclosed desk (Refused conn) = ⊥
   IsUnclosed desk (Closed files) = ⊥

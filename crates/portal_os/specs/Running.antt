@@ -15,6 +15,7 @@ use Rattle.portal_server.specs.Loopback.{BindsLoopback}
 use Rattle.portal_server.specs.Turns.{host_of}
 use Rattle.portal_commands.specs.Places.{IsFileError, PlaceValue}
 use Rattle.portal_commands.specs.Serving.{NetworkValue}
+use Rattle.portal_os.specs.Left.{RemainsHold}
 use Rattle.portal_os.specs.Opening.{IsClosed, IsFoundFor, IsUnclosed, OpensTo, RefusesFiles}
 
 -- Files that hold this image, and the desks over them. Nothing more is assumed of a settings file: any bytes
@@ -36,6 +37,7 @@ host_place g image desk = record {
   closes = λ closed left. IsClosed closed left;
   fails_to_read = λ path trouble. ⊤;
   refuses = λ left path purpose trouble. RefusesFiles image purpose left trouble.error;
+  still_holds = λ left path. RemainsHold left;
   fails_to_close = λ unclosed left path trouble. IsUnclosed unclosed left;
   fails_to_make = IsFileError;
 }

@@ -1,8 +1,9 @@
 //! Whether a database file holds its database alone, so that its log has nothing to copy.
-ghost use Rattle.std.specs.Prelude.{◌≡◌, false, slice_index, IsTrue, IfOk, OnOk};
+ghost use Rattle.std.specs.Prelude.{◌≡◌, ℕ, List, false, slice_index, IsTrue, IfOk, OnOk};
 ghost use Rattle.sqlite_disk.specs.Disk.{Only};
 ghost use Rattle.sqlite_wal.specs.Reads.{AreClean, IsClean, OnlyReads};
 ghost use Rattle.sqlite.specs.Files.{image_of};
+ghost use Rattle.portal_os.specs.Copying.{LeavesNoMore};
 ghost use Rattle.portal_os.specs.Opening.{IsAlone, IsSettledAlone};
 
 use crate::opening_error::OpeningError;
@@ -44,17 +45,21 @@ fn is_alone<D: Disk>(files: &mut Files<D>) -> io::Result<bool>
     }
 }
 
-/// Syncs a file, so that a crash leaves what is read of it.
+/// Syncs a file, so that a crash leaves what is read of it. If that fails, a crash leaves nothing that it did
+/// not leave before.
 fn settle<D: Disk>(file: &mut D) -> Result<(), OpeningError>
     requires { IsTrue (D.Disk.is_usable file.old) }
     ensures same { OnOk result (OnlyReads D.Disk file.old file.new) }
     ensures only { OnOk result (Only (D.Disk.seen file.old) (D.Disk.may_leave file.new)) }
+    ensures seen { D.Disk.seen file.new ≡ D.Disk.seen file.old }
+    ensures crash { (left : List ℕ) → D.Disk.may_leave file.new left → D.Disk.may_leave file.old left }
 {
     file.sync().map_err(OpeningError::of_io)
 }
 
 /// Checks whether the log of a database file is to be copied: if `copies` is true, and the file does not hold
-/// its database alone. If it does, both files are synced, so that a crash leaves it so.
+/// its database alone. If it does, both files are synced, so that a crash leaves it so. Also after an error a
+/// crash leaves nothing of the files that it did not leave before.
 pub fn needs_copy<D: Disk>(files: &mut Files<D>, copies: bool) -> Result<bool, OpeningError>
     requires log { IsTrue (D.Disk.is_usable files.old.log) }
     requires db { IsTrue (D.Disk.is_usable files.old.db) }
@@ -63,6 +68,8 @@ pub fn needs_copy<D: Disk>(files: &mut Files<D>, copies: bool) -> Result<bool, O
         → IsTrue copies → needs ≡ false → IsSettledAlone D.Disk files.new) }
     ensures log { OnOk result (OnlyReads D.Disk files.old.log files.new.log) }
     ensures db { OnOk result (OnlyReads D.Disk files.old.db files.new.db) }
+    ensures seen { image_of D.Disk files.new ≡ image_of D.Disk files.old }
+    ensures crash { LeavesNoMore D.Disk files.old files.new }
 {
     if !copies {
         return Ok(false);

@@ -1,13 +1,25 @@
 //! Copies the log of a database file into it before the two are opened, so that they are opened once.
-ghost use Rattle.std.specs.Prelude.{◌≡◌, ◌⊎◌, ◌≤◌, length, IsSome, IsTrue, IfOk, OnOk, Some};
+ghost use Rattle.std.specs.Prelude.{
+  ◌≡◌,
+  ◌⊎◌,
+  ◌≤◌,
+  length,
+  IsSome,
+  IsTrue,
+  IfErr,
+  IfOk,
+  IfSome,
+  OnOk,
+  Some,
+};
 ghost use Rattle.sqlite_wal.specs.Files.{outcomes};
 ghost use Rattle.sqlite_wal.specs.Format.{be32};
 ghost use Rattle.sqlite_wal.specs.Log.{AreUsable, SameParts, StaysOpen, image, logged, state};
-ghost use Rattle.sqlite_wal.specs.PageSize.{size_in_file};
+ghost use Rattle.sqlite_wal.specs.PageSize.{bytes_of, size_in_file};
 ghost use Rattle.sqlite_wal.specs.Reads.{AreClean, OnlyReads};
-ghost use Rattle.sqlite_wal.specs.Recovery.{AddsNothing, Image};
+ghost use Rattle.sqlite_wal.specs.Recovery.{Image, IsUnreadable, KeepsImage};
 ghost use Rattle.sqlite.specs.Files.{image_of};
-ghost use Rattle.portal_os.specs.Copying.{BeginsPlain, StandsFor};
+ghost use Rattle.portal_os.specs.Copying.{BeginsPlain, IsNamedPlain, KeepsDatabase, StandsFor};
 
 use crate::alone::LOG_WITH_FRAME;
 use crate::opening_error::OpeningError;
@@ -25,6 +37,8 @@ const NO_SUMS: u32 = 0x0040_2020;
 fn size_to_copy<D: Disk>(alloc: Global, files: &mut Files<D>) -> Option<PageSize>
     requires log { IsTrue (D.Disk.is_usable files.old.log) }
     requires db { IsTrue (D.Disk.is_usable files.old.db) }
+    ensures named { IfSome result (λ size. AreClean D.Disk files.new.log files.new.db
+        → IsNamedPlain (bytes_of size) (image_of D.Disk files.old)) }
     ensures log { OnlyReads D.Disk files.old.log files.new.log }
     ensures db { OnlyReads D.Disk files.old.db files.new.db }
 {
@@ -38,8 +52,14 @@ fn size_to_copy<D: Disk>(alloc: Global, files: &mut Files<D>) -> Option<PageSize
         return None;
     };
     match probe_first_page(alloc, files, size) {
-        Ok((b'S', NO_SUMS)) => Some(size),
-        _ => None,
+        Ok((first, word)) => {
+            if first == b'S' && word == NO_SUMS {
+                Some(size)
+            } else {
+                None
+            }
+        }
+        Err(_) => None,
     }
 }
 
@@ -92,7 +112,8 @@ fn read_first_page<D: Disk>(log: &mut Log<D>, page: &mut [u8]) -> Result<(), Err
 }
 
 /// Recovers a log and copies it into its database file, so that the two stand for what they stood for, as
-/// they are and after a crash. A crash on the way adds nothing to what they stand for.
+/// they are and after a crash. A crash on the way, or after an error, leaves what it left before or what
+/// stands for the same pages; and what it left before, if the two stood for no pages.
 fn recover_and_copy<D: Disk>(log: &mut Log<D>, page: &mut [u8]) -> Result<(), Error>
     requires usable { AreUsable log.old }
     requires page { length page.old ≡ (state log.old).page_size }
@@ -101,8 +122,10 @@ fn recover_and_copy<D: Disk>(log: &mut Log<D>, page: &mut [u8]) -> Result<(), Er
     ensures left { OnOk result (
         (left : Image) → (state log.new).may_leave left → StandsFor (image log.old) left) }
     ensures honest { IsTrue (state log.new).is_clean → IsTrue (state log.old).is_clean }
-    ensures crash { AddsNothing (state log.old).page_size (state log.old).may_leave
+    ensures kept { KeepsImage (state log.old).page_size (image log.old) (state log.old).may_leave
         (state log.new).may_leave }
+    ensures still { IsUnreadable (state log.old).page_size (image log.old)
+        → (left : Image) → (state log.new).may_leave left → (state log.old).may_leave left }
 {
     log.recover()?;
     read_first_page(log, page)?;
@@ -116,9 +139,11 @@ fn copy_with_size<D: Disk + Drop>(
     files: Files<D>,
     size: PageSize,
     seed: u64,
-) -> Result<Files<D>, Error>
+) -> Result<Files<D>, (Error, Files<D>)>
     requires log { IsTrue (D.Disk.is_usable files.log) }
     requires db { IsTrue (D.Disk.is_usable files.db) }
+    requires named { AreClean D.Disk files.log files.db
+        → IsNamedPlain (bytes_of size) (image_of D.Disk files) }
     ensures log { IfOk result (λ copied. IsTrue (D.Disk.is_usable copied.log)) }
     ensures db { IfOk result (λ copied. IsTrue (D.Disk.is_usable copied.db)) }
     ensures clean { IfOk result (λ copied.
@@ -128,11 +153,19 @@ fn copy_with_size<D: Disk + Drop>(
     ensures left { IfOk result (λ copied.
         AreClean D.Disk copied.log copied.db → (left : Image) → outcomes D.Disk copied.log copied.db left
         → StandsFor (image_of D.Disk files) left) }
+    ensures kept { IfErr result (λ e.
+        AreClean D.Disk e.1.log e.1.db → KeepsDatabase D.Disk files e.1) }
 {
-    let mut page = vec![in alloc; 0; size.bytes()]?;
-    let mut log = Log::new(alloc, files, size, seed)?;
-    recover_and_copy(&mut log, &mut page)?;
-    Ok(log.into_files())
+    let Ok(mut page) = vec![in alloc; 0; size.bytes()] else {
+        return Err((Error::OutOfMemory, files));
+    };
+    match Log::new(alloc, files, size, seed) {
+        Ok(mut log) => match recover_and_copy(&mut log, &mut page) {
+            Ok(()) => Ok(log.into_files()),
+            Err(error) => Err((error, log.into_files())),
+        },
+        Err(failed) => Err((Error::OutOfMemory, failed.value)),
+    }
 }
 
 /// Converts an error of a log that is recovered or copied.
@@ -148,12 +181,15 @@ fn error_of_copy(error: Error) -> OpeningError {
 /// If `copies` is true, copies the log of a database file into it, where that can be done before the two are
 /// opened: the log may hold a commit, and the database's pages end in no checksums. Then the files stand for
 /// what they stood for, as they are and after a crash. Else they are as they were.
+///
+/// Errors, with the files: they could not be read or written, or out of memory. A crash then leaves what it
+/// left before, or what holds the database that the files held; if they held none yet, what it left before.
 pub fn copy_unopened<D: Disk + Drop>(
     alloc: Global,
     mut files: Files<D>,
     seed: u64,
     copies: bool,
-) -> Result<Files<D>, OpeningError>
+) -> Result<Files<D>, (OpeningError, Files<D>)>
     requires log { IsTrue (D.Disk.is_usable files.log) }
     requires db { IsTrue (D.Disk.is_usable files.db) }
     ensures log { IfOk result (λ copied. IsTrue (D.Disk.is_usable copied.log)) }
@@ -165,6 +201,8 @@ pub fn copy_unopened<D: Disk + Drop>(
     ensures left { IfOk result (λ copied.
         AreClean D.Disk copied.log copied.db → (left : Image) → outcomes D.Disk copied.log copied.db left
         → outcomes D.Disk files.log files.db left ⊎ StandsFor (image_of D.Disk files) left) }
+    ensures kept { IfErr result (λ e.
+        AreClean D.Disk e.1.log e.1.db → KeepsDatabase D.Disk files e.1) }
 {
     if !copies {
         return Ok(files);
@@ -172,7 +210,7 @@ pub fn copy_unopened<D: Disk + Drop>(
     match size_to_copy(alloc, &mut files) {
         Some(size) => match copy_with_size(alloc, files, size, seed) {
             Ok(copied) => Ok(copied),
-            Err(error) => Err(error_of_copy(error)),
+            Err((error, left)) => Err((error_of_copy(error), left)),
         },
         None => Ok(files),
     }

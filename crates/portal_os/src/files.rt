@@ -2,6 +2,7 @@
 ghost use Rattle.std.specs.Prelude.{◌≡◌, [], IfErr, IfOk, ⊤};
 ghost use Rattle.portal_server.specs.declared.error.ProgramError.{ProgramError as Failure};
 ghost use Rattle.portal_os.specs.Laws.{memory_desk_is_fault_free};
+ghost use Rattle.portal_os.specs.Left.{RemainsHold};
 ghost use Rattle.portal_os.specs.Opening.{IsClosed, IsFoundFor, IsUnclosed, OpensTo, RefusesFiles};
 ghost use Rattle.sqlite.specs.Files.{over_files};
 ghost use Rattle.sqlite.specs.Steps.{over_memory};
@@ -61,6 +62,7 @@ fn open_pair<P: FilePair>(
 ) -> Result<StoreDesk<FileStore<P::File>>, (Trouble, Remains<P::File>)>
     ensures why { IfErr result (λ e. IsDatabaseError e.0.error × NamesPath path.now e.0) }
     ensures fails { IfErr result (λ e. RefusesFiles P.image purpose e.1 e.0.error) }
+    ensures kept { (L : Ledger) → ImageHoldsLedger P.image L → IfErr result (λ e. RemainsHold e.1 L) }
     ensures same_settings { IfOk result (λ desk. settings_of desk ≡ settings) }
     ensures represents { (L : Ledger) → ImageHoldsLedger P.image L
         → IfOk result
@@ -77,10 +79,7 @@ fn open_pair<P: FilePair>(
                 Err((trouble, Remains::Refused(left)))
             }
         },
-        Err(error) => Err((
-            trouble_at(alloc, path, error.program_error(), &error),
-            Remains::Nothing,
-        )),
+        Err((error, left)) => Err((trouble_at(alloc, path, error.program_error(), &error), left)),
     }
 }
 
@@ -105,6 +104,8 @@ impl<M: Machine, P: FilePair> Place for HostFiles<M, P> {
 
     ghost refuses = { λ place left path purpose trouble.
         RefusesFiles P.image purpose left trouble.error };
+
+    ghost still_holds = { λ place left path L. RemainsHold left L };
 
     ghost fails_to_close = { λ desk left path trouble. IsUnclosed desk left };
 

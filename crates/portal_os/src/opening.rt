@@ -10,9 +10,22 @@ ghost use Rattle.portal_commands.specs.Places.{IsFileError, IsDatabaseError};
 ghost use Rattle.portal_desk_store.specs.Attaching.{IsAsItWas, IsConnOpen, IsSpared, MayBeAttached};
 ghost use Rattle.portal_desk_store.specs.DeskRepresents.{DeskRepresents, DeskIsFaultFree, settings_of};
 ghost use Rattle.portal_tables.specs.Attaching.{AttachesOthers};
-ghost use Rattle.portal_tables.specs.Images.{ImageHoldsLedger};
-ghost use Rattle.portal_tables.specs.TablesRepresent.{ConnRepresents, ConnIsFaultFree};
-ghost use Rattle.portal_os.specs.Opening.{ComesFrom, OpensAgain, OpensFiles, RefusesStore, copies_for};
+ghost use Rattle.portal_tables.specs.Images.{FilesRepresent, ImageHoldsLedger};
+ghost use Rattle.portal_tables.specs.TablesRepresent.{
+  ConnRepresents,
+  ConnIsFaultFree,
+  CrashStatesOfConnHold,
+};
+ghost use Rattle.portal_os.specs.Left.{LeavesUntouched, RemainsHold, StillHolds, WhileClean};
+ghost use Rattle.portal_os.specs.Opening.{
+  ComesFrom,
+  IsFoundFor,
+  OpensAgain,
+  OpensFiles,
+  RefusesStore,
+  RefusesToOpen,
+  copies_for,
+};
 
 use crate::alone::needs_copy;
 use crate::cache::with_kept_pages;
@@ -21,12 +34,13 @@ use crate::errors::error_of_open;
 use crate::looking::check_database;
 use crate::opening_error::OpeningError;
 use crate::pairs::FilePair;
+use crate::remains::Remains;
 use portal_commands::place::Purpose;
 use portal_desk_store::StoreDesk;
 use portal_files::Settings;
 use portal_server::ProgramError;
 use portal_tables::opening::{self, open_files, open_in_memory, reopen};
-use sqlite::{Alter, Connection, FileStore, MemStore, Options};
+use sqlite::{Alter, Connection, FileStore, Leftover, MemStore, Options};
 use sqlite_disk::{Disk, Files};
 use std::alloc::Global;
 use std::hash::{BuildHasher, RandomState};
@@ -34,7 +48,8 @@ use std::hash::{BuildHasher, RandomState};
 /// Attaches the database of a connection and returns the desk over it, which represents the same ledger.
 ///
 /// Errors, with the connection: `NotOurs`, `Newer`, `NoMemory`, `File`. A database that is not to be attached
-/// gets no crash state. After all but `File` the database is unchanged.
+/// gets no crash state. After all but `File` the database is unchanged; after each, its crash states still
+/// hold the ledger.
 pub fn attach_store<S: Alter + Drop>(
     conn: Connection<S>,
     settings: Settings,
@@ -50,6 +65,8 @@ pub fn attach_store<S: Alter + Drop>(
     ensures kept { IfErr result (λ e. ConnIsFaultFree S.Store e.1
         → IsConnOpen S.Store conn → e.0 ≢ ProgramError.File → IsAsItWas S.Store conn e.1) }
     ensures spares { IfErr result (λ e. ¬ MayBeAttached S.Store conn → IsSpared S.Store conn e.1) }
+    ensures holds { (L : Ledger) → ConnRepresents S.Store conn L
+        → IfErr result (λ e. ConnIsFaultFree S.Store e.1 → CrashStatesOfConnHold S.Store e.1 L) }
 {
     match StoreDesk::adopt(conn, settings) {
         Ok(desk) => Ok(desk),
@@ -90,22 +107,27 @@ pub fn open_memory_desk(
 }
 
 /// If `copies` is true, closes the files of a connection and opens them again, so that the log is copied into
-/// the database file. Else returns the connection as it is.
+/// the database file. Else returns the connection as it is. Err: what is left of the files still holds the
+/// ledger.
 fn copy_log<D: Disk + Drop>(
     alloc: Global,
     conn: Connection<FileStore<D>>,
     options: Options,
     copies: bool,
-) -> Result<Connection<FileStore<D>>, OpeningError>
-    ensures { OpensAgain conn copies result }
+) -> Result<Connection<FileStore<D>>, (OpeningError, Leftover<D>)>
+    ensures opens { OpensAgain conn copies result }
+    ensures kept { (L : Ledger) → (HasCleanDisk (file_state conn) → ConnRepresents over_files conn L)
+        → IfErr result (λ e. StillHolds e.1 L) }
 {
     if !copies {
         return Ok(conn);
     }
     match reopen(alloc, conn, options) {
         Ok(again) => Ok(again),
-        Err(opening::Unopened::Unclosed(error, _)) => Err(OpeningError::Store(error)),
-        Err(opening::Unopened::Refused(error, _)) => Err(OpeningError::Store(error)),
+        Err(opening::Unopened::Unclosed(error, store)) => {
+            Err((OpeningError::Store(error), Leftover::Store(store)))
+        }
+        Err(opening::Unopened::Refused(error, left)) => Err((OpeningError::Store(error), left)),
     }
 }
 
@@ -121,7 +143,8 @@ fn copies_for(purpose: Purpose) -> bool
 
 /// Opens a connection to a database file and its log; to serve, the log is copied into the file. Errors
 /// among others: `Lost`, if the file is empty but its log holds commits: it is never taken for a new
-/// database; `NoDatabase`, to ask of a database that has yet to be made: then nothing is written.
+/// database; `NoDatabase`, to ask of a database that has yet to be made. After these two the files are as they
+/// were; after each error, what is left of the files still holds the ledger that they held, after a crash too.
 ///
 /// The connection keeps as many pages in memory as the database file has, within limits (`kept_pages`).
 pub fn open_database_files<D: Disk + Drop>(
@@ -129,26 +152,37 @@ pub fn open_database_files<D: Disk + Drop>(
     mut files: Files<D>,
     options: Options,
     purpose: Purpose,
-) -> Result<Connection<FileStore<D>>, OpeningError>
+) -> Result<Connection<FileStore<D>>, (OpeningError, Leftover<D>)>
     requires log { IsTrue (D.Disk.is_usable files.log) }
     requires db { IsTrue (D.Disk.is_usable files.db) }
-    ensures { OpensFiles (image_of D.Disk files) purpose result }
+    ensures opens { OpensFiles (image_of D.Disk files) purpose result }
+    ensures kept { (L : Ledger) → FilesRepresent D.Disk files L → IfErr result (λ e. StillHolds e.1 L) }
+    ensures untouched { ¬ IsFoundFor (image_of D.Disk files) purpose
+        → IfErr result (λ e. WhileClean D.Disk (LeavesUntouched files e.1)) }
 {
     let copies = copies_for(purpose);
-    check_database(alloc, &mut files, purpose)?;
-    let mut copied = copy_unopened(alloc, files, options.seed, copies)?;
-    let options = with_kept_pages(&mut copied, options)?;
-    open_connection(alloc, copied, options, copies)
+    match check_database(alloc, &mut files, purpose) {
+        Ok(()) => {}
+        Err(refusal) => return Err((refusal, Leftover::Files(files))),
+    }
+    match copy_unopened(alloc, files, options.seed, copies) {
+        Ok(mut copied) => match with_kept_pages(&mut copied, options) {
+            Ok(options) => open_connection(alloc, copied, options, copies),
+            Err(error) => Err((error, Leftover::Files(copied))),
+        },
+        Err((error, left)) => Err((error, Leftover::Files(left))),
+    }
 }
 
 /// Opens a connection to a database file and its log, and copies the log into the file if `copies` is true. A
-/// file that holds its database alone is opened once: its log has nothing to copy.
+/// file that holds its database alone is opened once: its log has nothing to copy. Err: what is left of the
+/// files still holds the ledger.
 fn open_connection<D: Disk + Drop>(
     alloc: Global,
     mut files: Files<D>,
     options: Options,
     copies: bool,
-) -> Result<Connection<FileStore<D>>, OpeningError>
+) -> Result<Connection<FileStore<D>>, (OpeningError, Leftover<D>)>
     requires log { IsTrue (D.Disk.is_usable files.log) }
     requires db { IsTrue (D.Disk.is_usable files.db) }
     ensures fault_free { IfOk result (λ conn.
@@ -158,11 +192,15 @@ fn open_connection<D: Disk + Drop>(
     ensures from { IfOk result (λ conn.
         HasCleanDisk (file_state conn) → ComesFrom (image_of D.Disk files) copies conn) }
     ensures live { IfOk result (λ conn. HasCleanDisk (file_state conn) → IsTrue (file_state conn).is_open) }
+    ensures kept { (L : Ledger) → FilesRepresent D.Disk files L → IfErr result (λ e. StillHolds e.1 L) }
 {
-    let copies_now = needs_copy(&mut files, copies)?;
+    let copies_now = match needs_copy(&mut files, copies) {
+        Ok(needs) => needs,
+        Err(error) => return Err((error, Leftover::Files(files))),
+    };
     match open_files(alloc, files, options) {
         Ok(conn) => copy_log(alloc, conn, options, copies_now),
-        Err((error, _)) => Err(OpeningError::Store(error)),
+        Err((error, left)) => Err((OpeningError::Store(error), left)),
     }
 }
 
@@ -172,20 +210,29 @@ fn random_options(host: &HostRuntime) -> Result<Options, OpeningError> {
     Ok(Options::new(state.hash_one(&0u8)))
 }
 
-/// Opens a connection to two files, with the machine's clock.
+/// Opens a connection to two files, with the machine's clock, as `open_database_files` does.
 fn open_with_clock<D: Disk + Drop>(
     host: &HostRuntime,
     files: Files<D>,
     purpose: Purpose,
-) -> Result<Connection<FileStore<D>>, OpeningError>
+) -> Result<Connection<FileStore<D>>, (OpeningError, Leftover<D>)>
     requires log { IsTrue (D.Disk.is_usable files.log) }
     requires db { IsTrue (D.Disk.is_usable files.db) }
-    ensures { OpensFiles (image_of D.Disk files) purpose result }
+    ensures opens { OpensFiles (image_of D.Disk files) purpose result }
+    ensures kept { (L : Ledger) → FilesRepresent D.Disk files L → IfErr result (λ e. StillHolds e.1 L) }
+    ensures untouched { ¬ IsFoundFor (image_of D.Disk files) purpose
+        → IfErr result (λ e. WhileClean D.Disk (LeavesUntouched files e.1)) }
 {
-    let options = random_options(host)?;
-    let mut conn = open_database_files(host.alloc(), files, options, purpose)?;
-    conn.set_clock(host);
-    Ok(conn)
+    match random_options(host) {
+        Ok(options) => match open_database_files(host.alloc(), files, options, purpose) {
+            Ok(mut conn) => {
+                conn.set_clock(host);
+                Ok(conn)
+            }
+            Err(failed) => Err(failed),
+        },
+        Err(error) => Err((error, Leftover::Files(files))),
+    }
 }
 
 /// Opens a connection to the database file at a path. To serve or to answer, the file is made if it is
@@ -194,16 +241,24 @@ fn open_with_clock<D: Disk + Drop>(
 /// held, ours and those of others, and holds the file's lock until it is released.
 ///
 /// No contract ties a path to what its file holds: `pair` stands for that. If it holds a ledger, the
-/// connection represents it. Errors among others: `Lost`, if the file is empty but its log holds commits;
-/// `NoDatabase`, to ask where no database was made: then nothing is made or written.
+/// connection represents it; or, with an error, what is left of the files still holds it, after a crash too.
+/// Errors among others: `Lost`, if the file is empty but its log holds commits; `NoDatabase`, to ask where no
+/// database was made. After these two a crash leaves the files as they were found.
 pub fn open_store<P: FilePair>(
     host: &HostRuntime,
     path: &str,
     pair: P,
     purpose: Purpose,
-) -> Result<Connection<FileStore<P::File>>, OpeningError>
-    ensures { OpensFiles P.image purpose result }
+) -> Result<Connection<FileStore<P::File>>, (OpeningError, Remains<P::File>)>
+    ensures opens { OpensFiles P.image purpose result }
+    ensures kept { (L : Ledger) → ImageHoldsLedger P.image L → IfErr result (λ e. RemainsHold e.1 L) }
+    ensures refuses { IfErr result (λ e. RefusesToOpen P.image purpose e.1) }
 {
-    let files = pair.open_files(host, path, purpose)?;
-    open_with_clock(host, files, purpose)
+    match pair.open_files(host, path, purpose) {
+        Ok(files) => match open_with_clock(host, files, purpose) {
+            Ok(conn) => Ok(conn),
+            Err((error, left)) => Err((error, Remains::Unopened(left.into_files()))),
+        },
+        Err(error) => Err((error, Remains::Nothing)),
+    }
 }

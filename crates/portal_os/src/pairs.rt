@@ -4,6 +4,7 @@ ghost use Rattle.sqlite_wal.specs.Recovery.{Image};
 ghost use Rattle.sqlite_wal.specs.Files.{image_at};
 ghost use Rattle.sqlite.specs.Files.{image_of};
 ghost use Rattle.sqlite_std_file.specs.File.{file_is_usable, IsFresh};
+ghost use Rattle.portal_os.specs.Copying.{LeavesImage};
 
 use crate::finding::find_database;
 use crate::opening_error::OpeningError;
@@ -16,7 +17,7 @@ pub trait FilePair: Drop {
     /// A file on its disk.
     type File: Disk + Drop;
 
-    /// What the two files hold when they are opened.
+    /// What the two files hold when they are opened, and a crash leaves then.
     ghost image: { Image };
 
     /// Opens and locks the database file at a path and its log. To serve or to answer, makes them if they are
@@ -29,7 +30,8 @@ pub trait FilePair: Drop {
     ) -> Result<Files<Self::File>, OpeningError>
         ensures log { IfOk result (λ files. IsTrue (Self.File.is_usable files.log)) }
         ensures db { IfOk result (λ files. IsTrue (Self.File.is_usable files.db)) }
-        ensures holds { IfOk result (λ files. image_of Self.File.Disk files ≡ image) };
+        ensures holds { IfOk result (λ files. image_of Self.File.Disk files ≡ image) }
+        ensures only { IfOk result (λ files. LeavesImage Self.File.Disk image files) };
 }
 
 /// Opens and locks the database file at a path and its log, as `FilePair::open_files` does.
@@ -69,6 +71,7 @@ impl<S: Start> FilePair for S {
         ensures log { IfOk result (λ files. IsTrue (file_is_usable S.Start files.log)) }
         ensures db { IfOk result (λ files. IsTrue (file_is_usable S.Start files.db)) }
         ensures holds { IfOk result (λ files. image_of ⟦<FileFrom<S> as Disk>⟧ files ≡ image_at S.Start) }
+        ensures only { IfOk result (λ files. LeavesImage ⟦<FileFrom<S> as Disk>⟧ (image_at S.Start) files) }
     {
         open_file_pair(host, path, self, purpose)
     }

@@ -6,8 +6,10 @@ use sqlite_disk::{Disk, Files};
 /// is handed on to be let go, so what a contract says of it holds until then.
 #[derive(Drop)]
 pub enum Remains<D: Disk + Drop> {
-    /// They were not opened: nothing is left.
+    /// They could not be opened or locked: nothing is left.
     Nothing,
+    /// They were not opened as a database.
+    Unopened(Files<D>),
     /// Their database was not attached: the connection to it.
     Refused(Connection<FileStore<D>>),
     /// They were closed.

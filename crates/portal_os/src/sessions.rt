@@ -14,7 +14,8 @@ use std::net::TcpStream;
 
 /// Law: if the two files hold a ledger, each crash state of the desk of a run of the program on the machine
 /// holds that ledger, then the commands that were newly accepted with a 200, in order, and at most one
-/// command more. This holds as long as the disk has been fault-free.
+/// command more. Of a run that opened no desk, however its opening ended, each crash state of what is left of
+/// the files holds that ledger. This holds as long as the disk has been fault-free.
 #[tactic(auto, using(portal_commands::proofs::SessionLemmas::runs_keep))]
 pub fn runs_are_kept<S: Start>(host: &HostRuntime, start: S)
     ensures { RunsKeep

@@ -43,6 +43,8 @@ impl Place for InMemory {
 
     ghost refuses = { λ _ _ _ _ _. ⊤ };
 
+    ghost still_holds = { λ _ _ _ _. ⊤ };
+
     ghost fails_to_close = { λ _ _ _ _. ⊤ };
 
     ghost fails_to_make = { λ _. ⊤ };

@@ -54,7 +54,7 @@ const EMPTY_LOG: &str = "asked_of_an_empty_file.db-wal";
 /// Opens the database at a path to ask, and returns whether it was refused since there is none.
 fn has_no_database(rt: &HostRuntime, path: &str) -> bool {
     match open_store(rt, path, Unknown, Purpose::Ask) {
-        Err(error) => matches!(error, OpeningError::NoDatabase),
+        Err((error, _)) => matches!(error, OpeningError::NoDatabase),
         Ok(conn) => {
             drop(conn);
             false

@@ -93,6 +93,8 @@ impl<P: Place> Place for GivenPlace<P> {
 
     ghost refuses = { λ _ _ _ _ _. ⊤ };
 
+    ghost still_holds = { λ _ _ _ _. ⊤ };
+
     ghost fails_to_close = { λ _ _ _ _. ⊤ };
 
     ghost fails_to_make = { λ _. ⊤ };

@@ -2,7 +2,7 @@ use Rattle.std.proofs.Common.{◌≡◌, ◌∙◌, Some}
 use Rattle.sqlite_wal.specs.Log.{image, state}
 use Rattle.sqlite_wal.proofs.LogLemmas.{settled}
 use Rattle.sqlite_wal.proofs.StateLemmas.{open_from, AddsNothing-trans}
-use Rattle.portal_os.proofs.CopyingLemmas.{copied_stands}
+use Rattle.portal_os.proofs.CopyingLemmas.{copied_stands, kept_after, still_after}
 use Rattle.portal_os.proofs.copying.recover_and_copy.Goals as goal
 
 pub read_first_page-requires-clause-some : goal.read_first_page-requires-clause-some
@@ -11,24 +11,49 @@ read_first_page-requires-clause-some g c clean =
     let is_open = open_from (state it) c.in_ok-recover.ensures.open clean in
     rw (c.in_ok-recover.ensures.clean clean) (settled it is_open g.met.D.Disk.seen_may_stay).whole.first
 
-pub returns-in_err-read_first_page-clause-crash : goal.returns-in_err-read_first_page-clause-crash
-returns-in_err-read_first_page-clause-crash g c =
-    AddsNothing-trans _ _ _ _ c.recover.ensures.crash
+pub returns-in_err-read_first_page-clause-kept : goal.returns-in_err-read_first_page-clause-kept
+returns-in_err-read_first_page-clause-kept g c =
+    kept_after c.recover.new.self g.met.D.Disk.seen_may_stay
+    c.in_ok-recover.ensures.open _ c.recover.ensures.size _ c.in_ok-recover.ensures.found _ _
     (rw (← c.recover.ensures.size) c.read_first_page.ensures.same.keeps.crash)
 
-pub returns-in_err-finish-clause-crash : goal.returns-in_err-finish-clause-crash
-returns-in_err-finish-clause-crash g c =
-    let size = c.recover.ensures.size in
-    let read = c.read_first_page.ensures.same.keeps in
-    AddsNothing-trans _ _ _ _ c.recover.ensures.crash
-    (rw (← size) (AddsNothing-trans _ _ _ _ read.crash (rw (← read.stays.size) c.finish.ensures.keeps.crash)))
+pub returns-in_err-read_first_page-clause-still : goal.returns-in_err-read_first_page-clause-still
+returns-in_err-read_first_page-clause-still g c =
+    still_after c.recover.new.self g.met.D.Disk.seen_may_stay
+    c.in_ok-recover.ensures.open _ c.recover.ensures.size _ c.in_ok-recover.ensures.found _ _
+    (rw (← c.recover.ensures.size) c.read_first_page.ensures.same.keeps.crash)
 
-pub returns-clause-crash : goal.returns-clause-crash
-returns-clause-crash g c =
-    let size = c.recover.ensures.size in
+pub returns-in_err-finish-clause-kept : goal.returns-in_err-finish-clause-kept
+returns-in_err-finish-clause-kept g c =
     let read = c.read_first_page.ensures.same.keeps in
-    AddsNothing-trans _ _ _ _ c.recover.ensures.crash
-    (rw (← size) (AddsNothing-trans _ _ _ _ read.crash (rw (← read.stays.size) c.finish.ensures.keeps.crash)))
+    kept_after c.recover.new.self g.met.D.Disk.seen_may_stay
+    c.in_ok-recover.ensures.open _ c.recover.ensures.size _ c.in_ok-recover.ensures.found _ _
+    (rw (← c.recover.ensures.size)
+    (AddsNothing-trans _ _ _ _ read.crash (rw (← read.stays.size) c.finish.ensures.keeps.crash)))
+
+pub returns-in_err-finish-clause-still : goal.returns-in_err-finish-clause-still
+returns-in_err-finish-clause-still g c =
+    let read = c.read_first_page.ensures.same.keeps in
+    still_after c.recover.new.self g.met.D.Disk.seen_may_stay
+    c.in_ok-recover.ensures.open _ c.recover.ensures.size _ c.in_ok-recover.ensures.found _ _
+    (rw (← c.recover.ensures.size)
+    (AddsNothing-trans _ _ _ _ read.crash (rw (← read.stays.size) c.finish.ensures.keeps.crash)))
+
+pub returns-clause-kept : goal.returns-clause-kept
+returns-clause-kept g c =
+    let read = c.read_first_page.ensures.same.keeps in
+    kept_after c.recover.new.self g.met.D.Disk.seen_may_stay
+    c.in_ok-recover.ensures.open _ c.recover.ensures.size _ c.in_ok-recover.ensures.found _ _
+    (rw (← c.recover.ensures.size)
+    (AddsNothing-trans _ _ _ _ read.crash (rw (← read.stays.size) c.finish.ensures.keeps.crash)))
+
+pub returns-clause-still : goal.returns-clause-still
+returns-clause-still g c =
+    let read = c.read_first_page.ensures.same.keeps in
+    still_after c.recover.new.self g.met.D.Disk.seen_may_stay
+    c.in_ok-recover.ensures.open _ c.recover.ensures.size _ c.in_ok-recover.ensures.found _ _
+    (rw (← c.recover.ensures.size)
+    (AddsNothing-trans _ _ _ _ read.crash (rw (← read.stays.size) c.finish.ensures.keeps.crash)))
 
 pub returns-clause-left : goal.returns-clause-left
 returns-clause-left g c left may =

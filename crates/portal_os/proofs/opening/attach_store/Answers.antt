@@ -1,5 +1,6 @@
 use Rattle.std.proofs.Common.{ap, inl, inr, ◌∙◌}
 use Rattle.portal_os.specs.Errors.{error_of_open}
+use Rattle.portal_os.proofs.LeftLemmas.{represented_left}
 use Rattle.portal_os.proofs.opening.attach_store.Goals as goal
 
 pub returns-in-Err-clause-fails : goal.returns-in-Err-clause-fails
@@ -16,3 +17,9 @@ returns-in-Err-clause-fails g c = (
 pub returns-in-Err-clause-kept : goal.returns-in-Err-clause-kept
 returns-in-Err-clause-kept g c = λ honest live other.
     c.in-Err.ensures.kept honest live (λ is. other (c.error_of_open.ensures ∙ ap error_of_open is))
+
+pub returns-in-Err-clause-holds : goal.returns-in-Err-clause-holds
+returns-in-Err-clause-holds g c L at = λ honest. elim (c.in-Err.ensures.attaches L at honest) [
+  | inl want ↦ represented_left _ _ L want.1
+  | inr store ↦ store.1
+]

@@ -1,12 +1,13 @@
-use Rattle.portal_os.proofs.OpeningLemmas.{opens_not}
+use Rattle.portal_os.proofs.LeftLemmas.{read_holds}
+use Rattle.portal_os.specs.Left.{given}
 use Rattle.portal_os.proofs.opening.open_with_clock.Goals as goal
 
-pub returns-in_err-options : goal.returns-in_err-options
-returns-in_err-options g c = opens_not _ _ c.from_residual.result _ c.from_residual.ensures.1
+pub returns-in-Ok-open_database_files-clause-opens : goal.returns-in-Ok-open_database_files-clause-opens
+returns-in-Ok-open_database_files-clause-opens g c =
+    rw c.set_clock.ensures c.in-Ok-open_database_files.ensures.opens
 
-pub returns-in_err-conn : goal.returns-in_err-conn
-returns-in_err-conn g c =
-    opens_not _ _ c.from_residual-in_err-conn.result _ c.from_residual-in_err-conn.ensures.1
+pub returns-in-Err-clause-kept : goal.returns-in-Err-clause-kept
+returns-in-Err-clause-kept g c L at = read_holds c.args.files c.args.files L (λ image may. may) at
 
-pub returns : goal.returns
-returns g c = rw c.set_clock.ensures c.in_ok-conn.ensures
+pub returns-in-Err-clause-untouched : goal.returns-in-Err-clause-untouched
+returns-in-Err-clause-untouched g c missing = given (λ image may. may)
