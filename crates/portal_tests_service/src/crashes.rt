@@ -1,7 +1,7 @@
 //! Crashes at each call of the files: during a day at the counter, and during the opening of databases of
-//! each schema version, from the opening of the files to their closing. The files are opened again, also with
-//! a further crash, and the day goes on: they hold the requests that were accepted, or one more, whole. If
-//! the files were closed, the database file alone holds that.
+//! each schema version, from the opening of the files, which is the program's, to their closing. The files are
+//! opened again, also with a further crash, and the day goes on: they hold the requests that were accepted, or
+//! one more, whole. If the files were closed, the database file alone holds that.
 use crate::disks::{CrashResult, InFiles};
 use crate::files::{AT_END, CrashPoint, Image, Part};
 use crate::jobs::{Job, JobResult};
@@ -477,13 +477,42 @@ fn index_made_again_with_database_crashes(rt: HostRuntime) -> Result<(), Fail> {
     crash_without_index(rt.alloc(), &rt, Part::Database)
 }
 
-/// Crashes an opening of files whose commands are in the log alone, since the process ended before the log
-/// was copied.
-fn crash_log_reading(alloc: Global, rt: &impl Abort, part: Part) -> Result<(), Fail> {
+/// Returns files whose commands are in the log alone, since the process ended before the log was copied.
+fn build_full_log(alloc: Global, rt: &impl Abort) -> Result<Image, Fail> {
     let day = build_commands(alloc, false)?;
     let files = InFiles::new(alloc);
-    let CrashResult { ended, .. } = files.run_and_crash(Job::Send(day.as_slice()), AT_END)?;
-    crash_opening_of(alloc, rt, &InFiles::of(alloc, &ended)?, part)
+    let CrashResult { ended, .. } = files.run_and_crash(Job::SendAndEnd(day.as_slice()), AT_END)?;
+    let without = contents_of_image(alloc, &ended.without_log(alloc)?)?;
+    assert!(rt; without.as_str() != contents_of_image(alloc, &ended)?.as_str());
+    Ok(ended)
+}
+
+/// Crashes an opening of files whose commands are in the log alone.
+fn crash_log_reading(alloc: Global, rt: &impl Abort, part: Part) -> Result<(), Fail> {
+    let image = build_full_log(alloc, rt)?;
+    crash_opening_of(alloc, rt, &InFiles::of(alloc, &image)?, part)
+}
+
+/// Crashes an opening of such files to ask, at each call of the file. What is left holds the same.
+fn crash_asking(alloc: Global, rt: &impl Abort, part: Part) -> Result<(), Fail> {
+    let image = build_full_log(alloc, rt)?;
+    let held = contents_of_image(alloc, &image)?;
+    for calls in 0..MANY {
+        let CrashResult {
+            is_closed,
+            ended,
+            failed,
+            ..
+        } = InFiles::of(alloc, &image)?.run_and_crash(Job::Ask, CrashPoint { part, calls })?;
+        for left in [ended, failed] {
+            let found = contents_of_image(alloc, &left)?;
+            assert_eq!(rt; found.as_str(), held.as_str(), "{part:?} {calls}");
+        }
+        if is_closed {
+            return Ok(());
+        }
+    }
+    Err("it was never asked".into())
 }
 
 /// The opening of files whose commands are in the log alone, with a crash at each call of the log.
@@ -496,4 +525,16 @@ fn log_reading_with_log_crashes(rt: HostRuntime) -> Result<(), Fail> {
 #[test]
 fn log_reading_with_database_crashes(rt: HostRuntime) -> Result<(), Fail> {
     crash_log_reading(rt.alloc(), &rt, Part::Database)
+}
+
+/// The opening of such files to ask, with a crash at each call of the log.
+#[test]
+fn full_log_asked_with_log_crashes(rt: HostRuntime) -> Result<(), Fail> {
+    crash_asking(rt.alloc(), &rt, Part::Log)
+}
+
+/// The opening of such files to ask, with a crash at each call of the database file.
+#[test]
+fn full_log_asked_with_database_crashes(rt: HostRuntime) -> Result<(), Fail> {
+    crash_asking(rt.alloc(), &rt, Part::Database)
 }

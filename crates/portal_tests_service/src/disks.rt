@@ -1,9 +1,10 @@
 //! A database in files in memory, which are closed after each job, or which crash.
 //!
-//! Only the functions of this file name a connection over files.
+//! They are opened as the program opens them. Only the functions of this file name a connection over files.
 use crate::files::{CrashPoint, Image, answer, crash_images};
 use crate::jobs::{Job, JobResult, run};
-use sqlite::{Connection, Files, Options};
+use portal_os::open_database_files;
+use sqlite::{Files, Options};
 use sqlite_disk::Disk;
 use std::alloc::Global;
 use std::test::Fail;
@@ -27,7 +28,7 @@ pub struct InFiles {
     image: Image,
 }
 
-/// Opens the database, runs the job and closes the database. Returns the result of the job, whether the
+/// Opens the database for the job's purpose, runs the job and closes the database. Returns the result of the job, whether the
 /// database was closed, and the files.
 fn open<D: Disk + Drop>(
     alloc: Global,
@@ -37,7 +38,7 @@ fn open<D: Disk + Drop>(
     if !files.may_be_used() {
         return Err("the files may not be used".into());
     }
-    match Connection::open_files(alloc, files, Options::new(1)) {
+    match open_database_files(alloc, files, Options::new(1), job.purpose()) {
         Ok(conn) => match run(alloc, conn, job)? {
             (told, Ok(files)) => Ok((told, true, files)),
             (told, Err((_, store))) => Ok((told, false, store.close())),

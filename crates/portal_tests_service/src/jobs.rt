@@ -1,11 +1,12 @@
 //! Jobs on a database in files, which is closed after each. A desk is closed as the program closes it.
+use portal_commands::place::Purpose;
 use portal_desk::Desk;
 use portal_desk_store::StoreDesk;
 use portal_files::{Settings, sample_settings};
 use portal_http::exchanges::status_in;
 use portal_http_routes::Routes;
 use portal_model::refusal::Refusal;
-use portal_os::close_desk;
+use portal_os::{close_desk, release_desk_files};
 use portal_tables::attaching::Refused;
 use portal_tables::errors::OpenFault;
 use portal_tests_desks::day::SentRequest;
@@ -25,8 +26,23 @@ pub enum Job<'a> {
     /// The requests are sent to a desk over the database until it stops. Each has to be answered as it says,
     /// and in the end the counters have to agree with the rows.
     Send(&'a [SentRequest]),
+    /// The same, and the process ends before the desk is closed, so the log is not copied.
+    SendAndEnd(&'a [SentRequest]),
+    /// Nothing.
+    Ask,
     /// Everything in the database is read.
     Whole,
+}
+
+impl Job<'_> {
+    /// Returns what the program would open the database for.
+    pub fn purpose(&self) -> Purpose {
+        match self {
+            Job::Send(_) | Job::SendAndEnd(_) => Purpose::Serve,
+            Job::Sql(_) | Job::Whole => Purpose::Answer,
+            Job::Ask => Purpose::Ask,
+        }
+    }
 }
 
 /// The result of a job.
@@ -97,18 +113,24 @@ fn result_of_outcome(outcome: Option<Outcome>) -> JobResult {
 /// The files of a database that was closed, or the database that was not.
 pub type Closed<D> = Result<Files<D>, (Error, FileStore<D>)>;
 
-/// Attaches the database, sends the requests to the desk over it, and closes it.
+/// Attaches the database, sends the requests to the desk over it, and closes it, or lets its files go.
 fn send_with_settings<D: Disk + Drop>(
     alloc: Global,
     conn: Connection<FileStore<D>>,
     settings: Settings,
     requests: &[SentRequest],
+    closes: bool,
 ) -> (JobResult, Closed<D>) {
     match StoreDesk::adopt(conn, settings) {
         Ok(adopted) => {
             let mut desk = adopted;
             let outcome = send(alloc, &mut desk, requests);
-            (result_of_outcome(outcome), close_desk(desk))
+            let closed = if closes {
+                close_desk(desk)
+            } else {
+                Ok(release_desk_files(desk))
+            };
+            (result_of_outcome(outcome), closed)
         }
         Err(Refused { fault, connection }) => (
             JobResult::Unattached(fault),
@@ -122,9 +144,10 @@ fn send_with_sample_settings<D: Disk + Drop>(
     alloc: Global,
     conn: Connection<FileStore<D>>,
     requests: &[SentRequest],
+    closes: bool,
 ) -> Result<(JobResult, Closed<D>), Fail> {
     match sample_settings(alloc) {
-        Ok(settings) => Ok(send_with_settings(alloc, conn, settings, requests)),
+        Ok(settings) => Ok(send_with_settings(alloc, conn, settings, requests, closes)),
         Err(fault) => {
             drop(conn);
             Err(fault.into())
@@ -144,7 +167,9 @@ pub fn run<D: Disk + Drop>(
             execute_all(&mut conn, texts)?;
             Ok((JobResult::Nothing, conn.close_files()))
         }
-        Job::Send(requests) => send_with_sample_settings(alloc, conn, requests),
+        Job::Send(requests) => send_with_sample_settings(alloc, conn, requests, true),
+        Job::SendAndEnd(requests) => send_with_sample_settings(alloc, conn, requests, false),
+        Job::Ask => Ok((JobResult::Nothing, conn.close_files())),
         Job::Whole => {
             let whole = dump_database(alloc, &mut conn).ok_or("the store is not read")?;
             Ok((JobResult::Whole(whole), conn.close_files()))
