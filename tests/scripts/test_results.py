@@ -90,7 +90,7 @@ class OfSkips(unittest.TestCase):
 
     def test_others(self) -> None:
         reasons = ("it needs network namespaces", "it needs network namespaces with nftables",
-                   "it needs the commit of version 1.0.0 in the history of git")
+                   "it needs the commit of version 1.0.0 in the history of git", "it needs ptrace")
         for reason in reasons:
             self.reasons.lacks = True
             self.assertTrue(self.reasons.holds(f"one: {reason}"), reason)

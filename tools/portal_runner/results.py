@@ -115,6 +115,8 @@ class Reasons:
                 return self.lacks_packets()
             case "it needs the commit of version 1.0.0 in the history of git":
                 return not self.succeeds("git", "cat-file", "-e", "9140408^{commit}")
+            case "it needs ptrace":
+                return not self.succeeds("strace", "-f", "-qqq", "-o", os.devnull, "true")
             case "it needs network namespaces":
                 return not self.succeeds("unshare", "-n", *"ip link add one type veth peer name two".split())
         return False
