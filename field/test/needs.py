@@ -1,6 +1,6 @@
 """What a test needs of the machine, and the one reason why it is skipped where that is not there.
 
-`./test` takes no other reasons for a skip than 'not installed: ..' with Debian packages and the five below, and looks
+`./test` takes no other reasons for a skip than 'not installed: ..' with Debian packages and the six below, and looks
 whether each holds.
 """
 
@@ -17,6 +17,7 @@ from typing import Any
 ROOT, LOOP_DEVICES, NAMESPACES = "it needs root", "it needs loop devices", "it needs network namespaces"
 NFTABLES = "it needs network namespaces with nftables"
 HISTORY = "it needs the commit of version 1.0.0 in the history of git"      # of a booted test alone, which looks itself
+PTRACE = "it needs ptrace"      # of tests/outside/openings.py alone, which looks itself
 COMMANDS = {"age": "age", "btrfs-progs": "mkfs.btrfs", "busybox": "busybox", "chromium": "chromium", "chromium-driver": "chromedriver",
             "binutils": "readelf", "gcc": "gcc", "git": "git", "lintian": "lintian", "man-db": "man",
             "curl": "curl", "dnsmasq-base": "dnsmasq", "dpkg": "dpkg-deb", "ethtool": "ethtool", "freeradius": "freeradius",
