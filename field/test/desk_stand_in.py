@@ -156,7 +156,9 @@ class StandIn:
         for pragma in ("locking_mode=EXCLUSIVE", "journal_mode=WAL", "synchronous=FULL"):
             self.book.execute("PRAGMA " + pragma)
         self.book.execute("CREATE TABLE IF NOT EXISTS accepted (n INTEGER PRIMARY KEY, at INTEGER, kind, words, mark)")
-        # as in the program's database, the time of the last entry
+        # as in the program's database, the batches, and the time of the last entry
+        self.book.execute("CREATE VIEW IF NOT EXISTS portal_batches AS SELECT json_extract(words, '$.batch') AS id, "
+                          "at AS issued FROM accepted WHERE kind = 'issue'")
         self.book.execute("CREATE TABLE IF NOT EXISTS portal_head AS SELECT 0 AS layout, 0 AS last_moment")
         self.book.execute("CREATE TRIGGER IF NOT EXISTS goes_on AFTER INSERT ON accepted "
                           "BEGIN UPDATE portal_head SET last_moment = NEW.at; END")

@@ -7,6 +7,7 @@ import os
 import pathlib
 import re
 import shlex
+import shutil
 import sqlite3
 import subprocess
 import sys
@@ -108,6 +109,12 @@ class Case(unittest.TestCase):
         self.assertEqual((done.returncode, done.stderr), (0, ""))
         return venue_copy.copies_in(self.place / "whole")[-1]
 
+    def stay(self) -> None:
+        """Ends the venue, and puts what its parts keep onto the machine."""
+        self.desk.job.kill()
+        self.desk.job.wait()
+        shutil.copytree(self.venue / "var", self.machine / "var", dirs_exist_ok=True)
+
     def restore(self, copy: pathlib.Path, key: pathlib.Path | None = None) -> list[str]:
         """Restores onto the machine. Users of the package are not on this one."""
         with tempfile.TemporaryDirectory(dir=self.scratch) as scratch, mock.patch("shutil.chown") as chown:
@@ -161,12 +168,14 @@ class Whole(Case):
         self.assertEqual(kept, ["of the package"])
         self.assertFalse((self.machine / "etc/portal/field.toml").exists())
 
-    def test_a_machine_with_a_database_is_no_new_one(self) -> None:
-        copy, book = self.copy(), self.machine / "var/lib/portal/book.db"
-        book.write_bytes(b"of another venue")
+    def test_a_machine_that_is_a_venue_is_no_new_one(self) -> None:
+        copy, settings = self.copy(), self.machine / "etc/portal/portal.toml"
+        self.stay()
+        settings.parent.mkdir(parents=True)
+        settings.write_text("of this machine")
         with self.assertRaisesRegex(InUse, "has a venue already"):
             self.restore(copy)
-        self.assertEqual((book.read_bytes(), (self.machine / "etc").exists()), (b"of another venue", False))
+        self.assertEqual(settings.read_text(), "of this machine")
 
     def test_a_copy_that_was_changed_is_refused_and_nothing_is_done(self) -> None:
         copy = self.copy()
@@ -276,10 +285,49 @@ class ByName(Case):
     def test_a_machine_that_has_one_is_no_new_one(self) -> None:
         self.copy_of_north()
         book = self.machine / "var/lib/portal-venues/south/book.db"
-        book.parent.mkdir(parents=True)
-        book.write_bytes(b"of another venue")
+        settings = self.machine / "etc/portal/venues/south/portal.toml"
+        for path in (book, settings):
+            path.parent.mkdir(parents=True)
+            path.write_bytes(b"of another venue")
         with self.assertRaisesRegex(InUse, "has a venue already"):
             self.restore(self.copy())
+
+
+@needs("procps")
+class Purged(Case):
+    """A machine on which the package was purged, and installed again: a database is there, and no settings."""
+
+    def test_what_is_there_is_later_than_the_copy_and_stays(self) -> None:
+        copy = self.copy()
+        later, = self.desk.sell_codes("hour", "b2")
+        self.stay()
+        given = self.machine / "var/lib/portal-give/given.db"
+        given.unlink()
+        schema = self.machine / "var/lib/portal/schema"
+        schema.write_text("as the package wrote it")
+        lines = self.restore(copy)
+        book = self.machine / "var/lib/portal/book.db"
+        self.assertIn(f"{book} was there, and stays", lines)
+        self.assertEqual((rows(given), schema.read_text()), (["portal-give/given.db"], "as the package wrote it"))
+        self.assertEqual((self.machine / "etc/portal/credentials/desk_token").read_text(), TOKEN)
+        with DeskProcess(book) as again:
+            for code in (self.code, later):
+                self.assertIn("sold", again.voucher(code))
+
+    def test_a_database_that_does_not_go_on_from_the_copy_is_refused_and_nothing_is_done(self) -> None:
+        self.stay()
+        older = self.machine / "var/lib/portal/book.db"
+        before = older.read_bytes()
+        with DeskProcess(self.venue / "var/lib/portal/book.db") as self.desk:
+            self.desk.sell_codes("hour", "b2")
+            copy = self.copy()
+        with self.assertRaisesRegex(BadCopy, "is of another venue, or older than the copy"):
+            self.restore(copy)
+        self.assertEqual((older.read_bytes(), (self.machine / "etc").exists()), (before, False))
+        older.with_name("book.db-wal").unlink(missing_ok=True)
+        older.write_bytes(b"damaged")
+        with self.assertRaisesRegex(BadCopy, "book.db does not check"):
+            self.restore(copy)
 
 
 @needs("age", "procps")

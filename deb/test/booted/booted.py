@@ -101,10 +101,9 @@ class Levels:
     def remove(self) -> None:
         """Removes the package; nothing of it is there afterwards."""
         self.reach("quiet")
-        sh("debconf-set-selections", input="portal portal/drop-database boolean true\n")
         if installed():         # also where its settings alone are left
             apt("purge", "portal")
-        sh("rm -rf /etc/portal")
+        sh("rm -rf /etc/portal /var/lib/portal* /var/backups/portal*")
         self.forget()
 
 

@@ -17,6 +17,7 @@ from booted import Levels
 from machine import (
     COPIES, DATABASE, GUEST, OUTSIDE, PATIENCE, Done, Gap, all_run, apt, arrived, forward, install, installed,
     output, passes, request_json, request_text, serves, sh, until, versions, within)
+from purge import left, purge
 
 pytestmark = pytest.mark.container
 VOUCHERS, A_BATCH, DEVICES = 100_000, 500, 50
@@ -207,7 +208,12 @@ def test_files_after_a_removal(removal: Removal) -> None:
 
 
 def test_purged(removal: Removal) -> None:
-    sh("debconf-set-selections", input="portal portal/drop-database boolean true\n")
-    apt("purge", "portal")
-    assert os.listdir("/etc/portal") == ["tls"] and not DATABASE.parent.exists(), (
-        f"after a purge with `yes` certificates alone are left  [{os.listdir('/etc/portal')}]")
+    """With venues by name, where their tests have made some."""
+    purged = purge()
+    assert purged.done.returncode == 0 and not purged.faults(), (
+        f"each path that goes or stays is named, and root alone reads what stays  [{purged.faults()}]")
+    assert os.listdir("/etc/portal") == ["tls"] and DATABASE.exists(), (
+        f"after a purge of the settings certificates alone are left  [{os.listdir('/etc/portal')}]")
+    done = sh(purged.command())
+    assert done.returncode == 0 and not left(), (
+        f"the command that is printed last destroys what stayed  [{purged.command()}; {left()}]")

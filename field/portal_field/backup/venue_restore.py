@@ -1,8 +1,10 @@
 """Makes a machine the venue of a whole copy (venue_copy.py): its settings, secrets, certificate, what the
-parts kept, and the database. The package is installed there, and no venue was set up."""
+parts kept, and the database. The package is installed there, and no venue was set up. What a purge of the
+package kept there is later than the copy, and stays."""
 
 from __future__ import annotations
 
+import contextlib
 import os
 import pathlib
 import shutil
@@ -13,9 +15,11 @@ import tomllib
 from dataclasses import dataclass
 
 from portal_field.backup.copies import (
-    BadCopy, InUse, check_by_portal, fold, head_of, look, say_step, sum_of, to_disk)
+    BadCopy, InUse, check_by_portal, copy_both, fold, head_of, look, read_only, say_step, sum_of, to_disk)
 from portal_field.backup.venue_copy import ETC, FORMAT, LABEL, SEALED, STATE
 from portal_field.backup.venue_state import DATABASE, DATABASES, kept_below
+
+WITHOUT_IT = "To restore without it put its folder elsewhere"
 
 
 @dataclass(frozen=True)
@@ -34,6 +38,11 @@ class Venue:
     def settings(self) -> pathlib.Path:
         """The server's settings."""
         return self.folder / ETC / "portal.toml"
+
+    def settings_for(self, database: pathlib.Path) -> pathlib.Path:
+        """The settings of a database of the copy: its own, or the server's."""
+        own = settings_of(self.folder, database)
+        return own if own.exists() else self.settings
 
 
 def opened(file: pathlib.Path, key: pathlib.Path | None, scratch: pathlib.Path) -> pathlib.Path:
@@ -105,12 +114,10 @@ def check(venue: Venue, portal: list[str]) -> None:
         raise BadCopy("it has no settings or no database")
     check_database(venue, portal, venue.settings, venue.database)
     for database in sorted((venue.folder / STATE).glob(DATABASES)):
-        name = database.parent.name
-        settings = venue.folder / ETC / "venues" / name / "portal.toml"
         try:
-            check_database(venue, portal, settings if settings.exists() else venue.settings, database)
+            check_database(venue, portal, venue.settings_for(database), database)
         except (BadCopy, OSError) as fault:
-            raise BadCopy(f"of the venue {name}: {fault}") from fault
+            raise BadCopy(f"of the venue {database.parent.name}: {fault}") from fault
 
 
 def check_database(venue: Venue, portal: list[str], settings: pathlib.Path, database: pathlib.Path) -> None:
@@ -123,6 +130,39 @@ def check_database(venue: Venue, portal: list[str], settings: pathlib.Path, data
         check_by_portal(portal, settings, database)
     except BadCopy as fault:
         raise BadCopy(f"{fault} (it was made by version {venue.version})") from fault
+
+
+def databases_in(root: pathlib.Path) -> list[pathlib.Path]:
+    """The databases below a root: the server's, and those of venues by name."""
+    state = root / STATE
+    return [path for path in (state / "portal" / DATABASE, *sorted(state.glob(DATABASES))) if path.exists()]
+
+
+def settings_of(root: pathlib.Path, database: pathlib.Path) -> pathlib.Path:
+    """Where the settings of a database below a root are."""
+    is_by_name = database.relative_to(root / STATE).match(DATABASES)
+    return root / ETC / (f"venues/{database.parent.name}/portal.toml" if is_by_name else "portal.toml")
+
+
+def batches(database: pathlib.Path) -> set[tuple[str, int]]:
+    """The batches of a database that nobody has open, each with the moment of its issue."""
+    with contextlib.closing(read_only(database)) as base:
+        return set(base.execute("SELECT id, issued FROM portal_batches"))
+
+
+def check_what_stays(venue: Venue, portal: list[str], root: pathlib.Path, scratch: pathlib.Path) -> None:
+    """BadCopy: a database that a purge kept here is damaged, or does not go on from that of the copy."""
+    for database in databases_in(venue.folder):
+        here, one = root / database.relative_to(venue.folder), scratch / "here.db"
+        if not here.exists():
+            continue
+        try:
+            copy_both(here, one)
+            check_database(venue, portal, venue.settings_for(database), one)
+        except BadCopy as fault:
+            raise BadCopy(f"{here} does not check: {fault}. {WITHOUT_IT}") from fault
+        if batches(database) - batches(one):
+            raise BadCopy(f"{here} is of another venue, or older than the copy. {WITHOUT_IT}")
 
 
 def make_folder(folder: pathlib.Path, user: str) -> None:
@@ -138,11 +178,14 @@ def make_folder(folder: pathlib.Path, user: str) -> None:
     shutil.chown(folder, user, user)
 
 
-def place_state(venue: Venue, root: pathlib.Path) -> None:
-    """Puts what the parts kept in its place, the database last, since a machine that has one is not
-    restored."""
+def place_state(venue: Venue, root: pathlib.Path) -> list[str]:
+    """Puts what the parts kept in its place, the database last; lines that say what was there, and stays."""
+    lines = list[str]()
     for user, path in sorted(kept_below(venue.folder / STATE), key=lambda kept: kept[1] == venue.database):
         goal = root / path.relative_to(venue.folder)
+        if goal.exists():
+            lines.append(f"{goal} was there, and stays")
+            continue
         if not goal.parent.exists():
             make_folder(goal.parent, user)
         shutil.chown(path, user, user)
@@ -151,6 +194,7 @@ def place_state(venue: Venue, root: pathlib.Path) -> None:
         to_disk(part)
         part.rename(goal)
         to_disk(goal.parent)
+    return lines
 
 
 def place_settings(venue: Venue, root: pathlib.Path) -> list[str]:
@@ -170,9 +214,8 @@ def place_settings(venue: Venue, root: pathlib.Path) -> list[str]:
 
 
 def is_venue(root: pathlib.Path) -> bool:
-    """Whether a machine has a database, also of a venue by name, and so is a venue already."""
-    state = root / STATE
-    return (state / "portal" / DATABASE).exists() or any(state.glob(DATABASES))
+    """Whether a venue is set up on a machine, also one by name: a purge keeps a database without settings."""
+    return any(settings_of(root, database).exists() for database in databases_in(root))
 
 
 def restore_venue(file: pathlib.Path, key: pathlib.Path | None, portal: list[str], scratch: pathlib.Path,
@@ -184,12 +227,12 @@ def restore_venue(file: pathlib.Path, key: pathlib.Path | None, portal: list[str
                     f"database goes there by `portal-restore FILE`, or with `--venue NAME`")
     venue = unpack(file, key, scratch)
     check(venue, portal)
-    lines = place_settings(venue, root)
-    place_state(venue, root)
-    mark = root / STATE / "portal/schema"
-    if head := head_of(venue.database):
-        mark.write_text(f"{head[0]}\n")
-    by_name = sorted(path.parent.name for path in (root / STATE).glob(DATABASES))
+    check_what_stays(venue, portal, root, scratch)
+    has_database = (root / STATE / "portal" / DATABASE).exists()
+    lines = [*place_settings(venue, root), *place_state(venue, root)]
+    if (head := head_of(venue.database)) and not has_database:
+        (root / STATE / "portal/schema").write_text(f"{head[0]}\n")
+    by_name = [path.parent.name for path in sorted((root / STATE).glob(DATABASES))]
     more = [f"and the venues {', '.join(by_name)}, each as of its own newest copy: after portal-setup run "
             f"portal-venues apply"] if by_name else []
     return ["this machine has the venue of the copy now", *lines, *more, "next: portal-setup"]
