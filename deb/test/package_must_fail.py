@@ -28,7 +28,7 @@ def make_copy(goal: pathlib.Path, mutants: list[Mutant]) -> str:
     for name in ("deb", "field", "docs", "examples", "dist"):
         shutil.copytree(TOP / name, goal / name, symlinks=True,
                         ignore=shutil.ignore_patterns("out", "__pycache__"))
-    for name in ("VERSION", "CHANGELOG.md", "crates.txt"):
+    for name in ("VERSION", "CHANGELOG.md", "crates.txt", "LICENSE-MIT", "LICENSE-APACHE", "pyproject.toml"):
         shutil.copy(TOP / name, goal / name)
     (goal / "tools").mkdir()
     for name in ("release", "verify", "version"):

@@ -40,13 +40,13 @@ portal (1.1.0) bookworm; urgency=medium
 
   * one and more
 
- -- Portal maintainers <portal@localhost>  Wed, 03 Feb 2027 00:00:00 +0000
+ -- No publisher named <nobody@localhost>  Wed, 03 Feb 2027 00:00:00 +0000
 
 portal (1.0.0) bookworm; urgency=medium
 
   * the first
 
- -- Portal maintainers <portal@localhost>  Mon, 24 Nov 2025 16:00:00 +0000
+ -- No publisher named <nobody@localhost>  Mon, 24 Nov 2025 16:00:00 +0000
 """
 COMPLETE = """
 _init_completion() { cur=${COMP_WORDS[COMP_CWORD]} prev=${COMP_WORDS[COMP_CWORD-1]} words=("${COMP_WORDS[@]}") cword=$COMP_CWORD; }
@@ -347,6 +347,21 @@ def test_maintainer(room: pathlib.Path, portal: str) -> None:
     assert said == "Ada Owner <ada@example.com>" and f" -- {said}  " in last, f"who answers for it is named  [{said}]"
     done = run(DEB / "build", "--maintainer", "nobody", "--out", room / "nobody")
     assert done.returncode == 2 and "NAME <ADDRESS>" in done.stderr, f"and it has an address  [{output(done)}]"
+
+
+def test_licence(root: pathlib.Path) -> None:
+    said, mit = (root / "usr/share/doc/portal/copyright").read_text(), (TOP / "LICENSE-MIT").read_text()
+    named = [tomllib.loads((TOP / "pyproject.toml").read_text())["project"]["license"],
+             *re.findall("SPDX-License-Identifier: (.+)", said),
+             *re.findall("(?m)^    identifier: (.+)", (root / "usr/share/doc/portal/openapi.yaml").read_text())]
+    assert named == ["MIT OR Apache-2.0"] * 3, f"each list of what this is names the same licence  [{named}]"
+    head, begin, grant = mit.partition("Permission is hereby granted, free of charge, to any person obtaining a copy")
+    packed = said.partition("\nLicense: MIT\n")[2].partition("\n\n")[0].replace("\n .\n", "\n")
+    assert "Copyright (c) the authors of portal\n" in head and (begin + grant).split() == packed.split(), (
+        "the package has the text of the MIT licence, as the repository has it, with its holder")
+    common = pathlib.Path("/usr/share/common-licenses/Apache-2.0")
+    assert (TOP / "LICENSE-APACHE").read_bytes() == common.read_bytes() and str(common) in said, (
+        "the text of the Apache licence is Debian's, and the package says where that is")
 
 
 def test_changelog(root: pathlib.Path) -> None:

@@ -274,7 +274,21 @@ def test_spdx_list_names_all(made: pathlib.Path) -> None:
             for row in found["packages"] if "checksums" in row}
     seen = {name: run("sha256sum", made / str(name)).stdout.split()[0] for name in sums}
     assert (sums == seen and len(sums) == 2
-            and {"sqlite", "httparse", "libc.so.6", "nftables", "python3-flask", "rattle-kit"} <= names
-            and "named no licence" in path.read_text()), (
-        "it names package and program by their sums, the libraries within and beside, and says that no "
-        f"licence is named  [{sorted(sums)}]")
+            and {"sqlite", "httparse", "libc.so.6", "nftables", "python3-flask", "rattle-kit"} <= names), (
+        f"it names package and program by their sums, and the libraries within and beside  [{sorted(sums)}]")
+
+
+def test_spdx_list_names_licences(made: pathlib.Path, repository: pathlib.Path) -> None:
+    """Of the kit's crates as the licence files are there; where the kit has none, that is said (SPDX 2.3, section 7.15)."""
+    found = json.loads((made / f"portal-{VERSION}.spdx.json").read_text())
+    licences = {name: {row["licenseDeclared"] for row in found["packages"] if row["name"] == name}
+                for name in ("portal", "httparse", "sqlite", "matchit", "json")}
+    assert licences == {"portal": {"MIT OR Apache-2.0"}, "httparse": {"MIT OR Apache-2.0"}, "sqlite": {"MIT"},
+                        "matchit": {"MIT AND BSD-3-Clause"}, "json": {"NONE"}}, (
+        f"it names the licence of the product, and of each crate in the program  [{licences}]")
+    with (repository / "crates.txt").open("a") as file:
+        file.write("portal_more: of_nobody\n")
+    program, package = (made / name for name in (f"portal-{VERSION}-x86_64-linux", f"portal_{VERSION}_amd64.deb"))
+    done = run(repository / "deb/sbom", VERSION, program, package, env={**os.environ, "SOURCE_DATE_EPOCH": "1764000000"})
+    assert (done.returncode, done.stderr) == (1, "deb/sbom: deb/copyright has no licence of of_nobody\n"), (
+        f"a crate of the kit whose licence nobody looked at is refused  [{output(done)}]")
