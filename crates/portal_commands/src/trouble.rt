@@ -135,7 +135,7 @@ fn settings_line(alloc: Global, path: &str, bytes: &[u8]) -> Option<String>
     if !is_one_line(path) {
         return None;
     }
-    let fault = find_settings_fault(alloc, bytes)?;
+    let fault = find_settings_fault(alloc, bytes).ok()??;
     let text = settings_text(alloc, fault).ok()?;
     second_line(alloc, path, text.as_str()).ok()
 }

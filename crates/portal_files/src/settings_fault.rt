@@ -1,6 +1,6 @@
 //! Finds what is wrong with a settings file that was refused.
 
-ghost use Rattle.std.specs.Prelude.{◌≡◌, ◌≤◌, ◌==◌, IfSome, MatchOption, count_by, length};
+ghost use Rattle.std.specs.Prelude.{◌≡◌, ◌≤◌, ◌==◌, IfOk, MatchOption, count_by, length};
 ghost use Rattle.toml.specs.View.{table_view};
 ghost use Rattle.portal_files.specs.SettingsFault.{
   name_of,
@@ -10,9 +10,10 @@ ghost use Rattle.portal_files.specs.SettingsFault.{
   IsSettingsFault,
 };
 ghost use Rattle.portal_files.specs.declared.settings_fault.SettingsKey.{SettingsKey as Key};
+ghost use Rattle.portal_files.specs.declared.settings_fault.SettingsFault.{SettingsFault as Fault};
 
 use crate::settings_file::{key_count, token_at, url_at, venue_at, zone_at};
-use std::alloc::Global;
+use std::alloc::{AllocError, Global};
 use toml::Table;
 
 /// A key of a settings file.
@@ -107,7 +108,9 @@ fn fault_at(table: &Table, key: SettingsKey) -> SettingsFault
 /// Returns what is wrong with a table in which each key has a value that it may have, if anything is.
 fn fault_of_whole(table: &Table) -> Option<SettingsFault>
     requires { (key : Key) → ¬ IsWrongAt (table_view table.now) key }
-    ensures { IfSome result (IsTableFault (table_view table.now)) }
+    ensures { MatchOption result
+        ((fault : Fault) → ¬ IsTableFault (table_view table.now) fault)
+        (IsTableFault (table_view table.now)) }
 {
     let venue_url = venue_at(table)?;
     if table.len() != key_count(venue_url) {
@@ -123,7 +126,9 @@ fn fault_of_whole(table: &Table) -> Option<SettingsFault>
 
 /// Returns what is wrong with a table, if anything is.
 fn table_fault(table: &Table) -> Option<SettingsFault>
-    ensures { IfSome result (IsTableFault (table_view table.now)) }
+    ensures { MatchOption result
+        ((fault : Fault) → ¬ IsTableFault (table_view table.now) fault)
+        (IsTableFault (table_view table.now)) }
 {
     match wrong_key(table) {
         Some(key) => Some(fault_at(table, key)),
@@ -133,15 +138,17 @@ fn table_fault(table: &Table) -> Option<SettingsFault>
 
 /// Finds what is wrong with the bytes of a settings file that `read_settings` refused: the first of the
 /// faults in the order of `SettingsFault`, and the first key in the order of `SettingsKey`. None, if nothing
-/// is wrong or out of memory.
-pub fn find_settings_fault(alloc: Global, bytes: &[u8]) -> Option<SettingsFault>
-    ensures { IfSome result (IsSettingsFault bytes.now) }
+/// is wrong. The only error is out of memory.
+pub fn find_settings_fault(alloc: Global, bytes: &[u8]) -> Result<Option<SettingsFault>, AllocError>
+    ensures { IfOk result (λ found. MatchOption found
+        ((fault : Fault) → ¬ IsSettingsFault bytes.now fault)
+        (IsSettingsFault bytes.now)) }
 {
     match toml::table_from_slice(alloc, bytes) {
-        Ok(table) => table_fault(&table),
-        Err(error) => {
-            let place = error.span()?.start;
-            Some(SettingsFault::NotToml(line_at(bytes, place)))
-        }
+        Ok(table) => Ok(table_fault(&table)),
+        Err(error) => match error.span() {
+            Some(span) => Ok(Some(SettingsFault::NotToml(line_at(bytes, span.start)))),
+            None => Err(AllocError),
+        },
     }
 }
