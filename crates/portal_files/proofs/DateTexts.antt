@@ -204,7 +204,7 @@ no-day text date n r shown is some none day so =
     absurd (false≢true (sym (ap is_some none) ∙ there))
 
 -- a day has one date, and the date one text
-same-text : (a b : Date) → epoch_day a ≡ epoch_day b → date_text a ≡ date_text b
+pub same-text : (a b : Date) → epoch_day a ≡ epoch_day b → date_text a ≡ date_text b
 same-text a b e =
     let same = epoch_day_injective a b e in
     λ i. ymd_text (same.0 i) (same.1 i) (same.2 i)

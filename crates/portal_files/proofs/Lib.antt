@@ -2,6 +2,7 @@ pub mod Common
 pub mod Tables
 pub mod PlanLists
 pub mod SamePlans
+mod SameTexts
 pub mod TextsAt
 pub mod DateTexts
 pub mod SampleText

@@ -1,10 +1,15 @@
 -- What the files determine.
 use Rattle.std.specs.Prelude.{◌≡◌, ◌↔◌, ℕ, ℤ, List}
 use Rattle.jiff.specs.Placed.{IsPosixZone}
+use Rattle.jiff_tz.specs.declared.timezone.TimeZone.{TimeZone}
 use Rattle.portal_model.specs.declared.plan.Plan.{Plan}
+use Rattle.portal_model.specs.declared.takings.DayTakings.{DayTakings}
+use Rattle.portal_files.specs.declared.sheet.BatchSheet.{BatchSheet}
 use Rattle.portal_files.specs.PlansFile.{IsPlansFile}
 use Rattle.portal_files.specs.SettingsFile.{SettingsValue, IsSettingsFile}
 use Rattle.portal_files.specs.DayText.{IsDayText}
+use Rattle.portal_files.specs.PrintFile.{IsPrintFile}
+use Rattle.portal_files.specs.Report.{IsReport}
 
 -- the bytes determine the plans
 abbrev pub FixesPlans : Type 0
@@ -29,3 +34,13 @@ FixesSettings = (bytes : List ℕ) (s t : SettingsValue) → IsSettingsFile byte
 abbrev pub NamesDays : Type 0
 NamesDays = (text later : List ℕ) (day next : ℤ) → IsDayText text day → IsDayText later next
     → (text ≡ later) ↔ (day ≡ next)
+
+-- the zone and the sheet determine the print file
+abbrev pub FixesPrintFile : Type 0
+FixesPrintFile = (zone : TimeZone) (sheet : BatchSheet) (one other : List ℕ) → IsPrintFile zone sheet one
+    → IsPrintFile zone sheet other → one ≡ other
+
+-- the takings determine the report
+abbrev pub FixesReport : Type 0
+FixesReport = (days : List DayTakings) (one other : List ℕ) → IsReport days one → IsReport days other
+    → one ≡ other

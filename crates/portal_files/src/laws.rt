@@ -1,7 +1,7 @@
 //! Laws of the files: what a file determines, and how takings are added up. The functions do nothing: each
 //! contract is a law, which `specs/` states.
 
-ghost use Rattle.portal_files.specs.Laws.{FixesPlans, FixesSettings, NamesDays};
+ghost use Rattle.portal_files.specs.Laws.{FixesPlans, FixesPrintFile, FixesReport, FixesSettings, NamesDays};
 ghost use Rattle.portal_files.specs.Takings.{
   RuleFixesDays,
   TakingsAreAdded,
@@ -22,6 +22,16 @@ pub fn file_fixes_settings()
 /// Law: two days have the same text exactly if they are the same day.
 pub fn text_names_day()
     ensures { NamesDays }
+{}
+
+/// Law: the zone and the sheet determine every byte of a print file.
+pub fn sheet_fixes_print_file()
+    ensures { FixesPrintFile }
+{}
+
+/// Law: the takings of the days determine every byte of a report.
+pub fn takings_fix_report()
+    ensures { FixesReport }
 {}
 
 /// Law: two zones of one rule give every moment the same local date.

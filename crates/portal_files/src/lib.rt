@@ -20,8 +20,8 @@ mod sheet;
 pub use days::{day_text, local_day, local_time, read_day};
 pub use fault::FileFault;
 pub use laws::{
-    file_fixes_plans, file_fixes_settings, rule_fixes_days, takings_are_added,
-    takings_vectors_hold, text_names_day,
+    file_fixes_plans, file_fixes_settings, rule_fixes_days, sheet_fixes_print_file,
+    takings_are_added, takings_fix_report, takings_vectors_hold, text_names_day,
 };
 pub use plans::read_plans;
 pub use print_file::print_batch;

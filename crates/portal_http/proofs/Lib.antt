@@ -10,4 +10,7 @@ pub mod AnsweredLemmas
 pub mod SessionLemmas
 pub mod ExecutionLemmas
 pub mod Readings
+mod SortedOnce
+mod ListedOnce
+mod RepliedOnce
 pub mod ExchangeLemmas

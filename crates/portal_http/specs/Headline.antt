@@ -47,13 +47,16 @@ Acknowledges settings L a response after = MatchBool (is_ok response)
     × (after ≡ with_command L operation a.moment))
     (after ≡ L)
 
--- the response is the reply of the ledger at the time of arrival, or that of `no_memory`, or that of
--- `stopped`
+-- the response is that of `no_memory`, or that of `stopped`
+abbrev pub IsFailure : ℕ → List ℕ → Type 0
+IsFailure moment response = IsRefusal NoMemory moment response ⊎ IsRefusal Stopped moment response
+
+-- the response is the reply of the ledger at the time of arrival, or that of a failure
 abbrev pub Replies : SettingsValue → Ledger → Arrived → List ℕ → Ledger → Type 0
 Replies settings L a response after =
     ((operation : Result Operation Rejection) × IsChecked settings a.seed a.bytes operation
     × IsReply settings operation L a.moment response after)
-    ⊎ (IsRefusal NoMemory a.moment response ⊎ IsRefusal Stopped a.moment response)
+    ⊎ IsFailure a.moment response
 
 -- Requests and their responses, one after another: each response is as above, and the last ledger is the
 -- first one with the acknowledged commands.
@@ -64,6 +67,13 @@ Leads settings L (a ∷ rest) [] last = ⊥
 Leads settings L (a ∷ rest) (r ∷ rs) last =
     (after : Ledger) × Acknowledges settings L a r after × Replies settings L a r after
     × Leads settings after rest rs last
+
+-- A sound ledger, the settings, and a request with its time and its seed determine the response, byte for
+-- byte, and the ledger after it, but for a failure.
+abbrev pub ResponseIsUnique : Type 0
+ResponseIsUnique = (settings : SettingsValue) (L : Ledger) (a : Arrived) (one other : List ℕ)
+    (after also : Ledger) → IsSound L → Replies settings L a one after → Replies settings L a other also
+    → ¬ IsFailure a.moment one → ¬ IsFailure a.moment other → (one ≡ other) × (after ≡ also)
 
 -- ---- what is in doubt
 

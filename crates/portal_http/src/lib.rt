@@ -13,6 +13,8 @@ mod spares;
 
 pub use arrivals::Arrival;
 pub use exchanges::{Cause, Cut, Done, exchange, status_in, status_is_in_response};
-pub use executions::{acknowledged_is_unique, retry_is_safe, sessions_are_kept, sessions_follow};
+pub use executions::{
+    acknowledged_is_unique, response_is_unique, retry_is_safe, sessions_are_kept, sessions_follow,
+};
 pub use runs::run;
 pub use spares::Spare;
