@@ -24,7 +24,7 @@ use Rattle.portal_commands.specs.Places.{IsForMemory, PlaceValue}
 use Rattle.portal_commands.specs.Serving.{NetworkValue, ServesOver}
 use Rattle.portal_commands.specs.declared.causes.UsageFault.TheVariants.{Arguments, Port}
 use Rattle.portal_commands.specs.declared.trouble.Trouble.{Trouble}
-use Rattle.portal_commands.specs.Troubles.{EndsUsage, IsOutOfRange}
+use Rattle.portal_commands.specs.Troubles.{EndsTrouble, EndsUsage, IsOutOfRange}
 
 -- Why the arguments could not be copied: one is not UTF-8, or out of memory.
 abbrev pub error_of_words : ErrorKind → ProgramError
@@ -93,3 +93,11 @@ EndsProgram place network wire errors errors_after words status =
     (λ order. GivesOrder words order × EndsOrder place network wire errors errors_after order status)
     (λ printout. GivesNoOrder words printout × Keeps wire.unread wire.unread_after
     × EndsPrintingText printout (outlets_of wire errors errors_after) status)
+
+-- The program is run with the arguments of the process; or they could not be copied, which is printed, and
+-- the input is left alone.
+abbrev pub EndsMain : PlaceValue → NetworkValue → Wire → Option (List ℕ) → Option (List ℕ) → ℕ → Type 0
+EndsMain place network wire errors errors_after status =
+    ((words : List (List ℕ)) × EndsProgram place network wire errors errors_after words status)
+    ⊎ ((trouble : Trouble) × IsOfWords trouble × Keeps wire.unread wire.unread_after
+    × EndsTrouble trouble (outlets_of wire errors errors_after) status)

@@ -31,5 +31,5 @@ pub use opening::{open_database_files, open_store};
 pub use opening_error::OpeningError;
 pub use pairs::FilePair;
 pub use remains::Remains;
-pub use running::run_on_host;
+pub use running::{run_main, run_on_host};
 pub use sessions::runs_are_kept;
