@@ -5,4 +5,5 @@ pub mod OpeningLemmas
 pub mod ClosingLemmas
 pub mod ImageLemmas
 pub mod LeftLemmas
+mod LifeLemmas
 pub mod LookingLemmas

@@ -3,5 +3,6 @@ pub mod CrashImages
 pub mod Errors
 pub mod Laws
 pub mod Left
+pub mod Lives
 pub mod Opening
 pub mod Running

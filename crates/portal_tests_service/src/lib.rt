@@ -9,3 +9,5 @@ mod disks;
 mod files;
 #[cfg(test)]
 mod jobs;
+#[cfg(test)]
+mod lives;
