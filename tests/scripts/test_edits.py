@@ -61,13 +61,21 @@ for name, start, body in (("Pair::" * bool(m[1]) + m[2], m.start(2), m[0]) for m
         line = text[:start].count("\n") + 1
         print(f"note: src/lib.rt:{line}:5: `search` found no proof (`invariant_of-result`)")
         refused = True
+    elif "renamed" in body:
+        print(f"./proofs/{name.replace('::', '/')}/Answers.antt:7:13: error: `returns`: record `Rattle.low.proofs.Lts.Start` has no field `a`")
+        print(f"fn low::{name}: not proved; it stands on `Rattle.low.proofs.Answers.returns`, which antt refuses")
+        refused = True
     elif "absent" in body:
         print("src/lib.rt:4:1: error: there is no such name")
         sys.exit(1)
     else:
         print(f"fn low::{name}: proved")
 if "const LIMIT: u32 = 4" in text:
+    print("note: src/lib.rt:4:1: it is not proved that what the function ensures holds when it returns (`returns`)")
     print("fn low::one: no proof: it calls `low::zero`, which is not proved")
+    refused = True
+if "const LIMIT: u32 = 5" in text:
+    print("./proofs/one/Answers.antt:7:13: error: `returns`: `LIMIT` is not in scope")
     refused = True
 print("logic=not-proved" if refused else "logic=proved")
 sys.exit(refused)
@@ -86,6 +94,36 @@ EDITS = [
     ("limit_same", [("LIMIT: u32 = 3", "LIMIT: u32 = 1 + 2")], "FAILED"),
     ("in_two_places", [("self.a + 3", "3 + self.a"), ("a + 1", "wrong")], "refused"),
     ("one_unfound", [("a + 1", "a + unfound")], "refused"),
+    ("one_renamed", [("a + 1", "renamed + 1")], "LOST A NAME"),
+    ("one_wrong_and_two_renamed", [("a + 1", "a + wrong"), ("self.a + 2", "renamed + 2")], "refused"),
+    ("limit_renamed", [("LIMIT: u32 = 3", "LIMIT: u32 = 5")], "LOST A NAME"),
+]
+
+# What the prover says of the function Pair::two, in its words: lines, whether the first of them refuses it, and whether it lost a name.
+ANSWER = "./proofs/Pair/two/Answers.antt:7:13: error: `returns`: "
+OPEN = "note: src/lib.rt:10:9: it is not proved that what the function ensures holds when it returns (`returns-then-a-gt0`)"
+NO_GOAL = ANSWER + ("`goal.returns-then-a-ne0`: module `Rattle.low.proofs.Pair.two.Goals`\n  has no `returns-then-a-ne0` that can be named from here "
+                    "(names in it that begin alike: `returns-clause-found`, `returns-clause-ok`)")
+NO_FIELD = ANSWER + "record `Rattle.low.proofs.Pair.two.Lts.View.In-Then-a-ne0` has no field `sum-rest` (nearest: .sum-a, .if-a-ne0)"
+OTHER_VALUE = ANSWER + "as printed, the two types differ only where one has `30` (expected), right after `c.args.a %`, and the other has `31`"
+SAID = [
+    ([OPEN], True, False),
+    ([OTHER_VALUE], True, False),
+    ([ANSWER + "expected type `IsOdd c.x`, but this has type `IsOdd (f x)`; `x` is not in scope here, so what is shown does not paste back as it "
+      "stands"], True, False),
+    ([NO_FIELD], False, True),
+    ([ANSWER + "record `Rattle.low.proofs.Pair.two.Lts.After-all` (nearest: .all-are_made)\n  has no field `has_ours-are_made`"], False, True),
+    ([ANSWER + "record `Rattle.low.proofs.Pair.two.Lts.Start` has no field `sum-rest` — the fields that can be named here are `args`, `ranges`"],
+     False, True),
+    ([ANSWER + "`sum_is` is not in scope: not a local variable, nor a definition admitted earlier"], False, True),
+    ([ANSWER + "`Rattle.low.proofs.Sums.sum_is` was not admitted"], False, True),
+    ([NO_FIELD, ANSWER + "2 declarations that depend on `is_sum`, which was rejected, were not checked: returns-clause-ok, invariant_of-i"],
+     False, True),
+    ([NO_FIELD, ANSWER + "1 declaration that depends on `is_sum`, which was rejected, was not checked: returns-clause-ok"], False, True),
+    ([NO_GOAL, OPEN], False, True),
+    ([OPEN, NO_FIELD], True, True),
+    ([OTHER_VALUE, NO_GOAL, OPEN], True, True),
+    ([OPEN.replace("10:9", "5:5"), NO_FIELD.replace("Pair/two", "one")], False, False),
 ]
 
 
@@ -210,19 +248,35 @@ class WithProver(unittest.TestCase):
         return (self.room / "asked").read_text().splitlines()
 
     def try_edits(self, edits: list[Any], source: str = SOURCE, *words: str) -> dict[str, str]:
-        """What the script says of each edit, asked with these words; `last` is its last line, with its status, and `asked` what it asked
-        the prover."""
+        """What the script says of each edit, asked with these words; `last` is its last line, with its status, `lost` the one above it on
+        lost names, and `asked` what it asked the prover."""
         self.make_tree([it[:2] for it in edits], source)
         ran = subprocess.run([self.tree / "tests/edits", *words], env=self.env, capture_output=True, text=True)
         *lines, last = ran.stdout.strip().split("\n")
         self.last, self.asked = (last, ran.returncode), self.asked_lines()
+        self.lost = [lines.pop()] if lines and lines[-1].endswith("lost a name") else []
         return {name.removeprefix("low/"): rest.split(":")[0] for name, _, rest in (it.partition(": ") for it in lines)}
 
 
 class Edits(WithProver):
     def test_all(self) -> None:
         self.assertEqual(self.try_edits(EDITS), {name: wanted for name, _, wanted in EDITS})
-        self.assertEqual(self.last, ("6 passed, 5 failed", 1))
+        self.assertEqual((self.lost, self.last), (["2 of them lost a name"], ("7 passed, 7 failed", 1)))
+
+    def test_what_is_refused(self) -> None:
+        edits = module_of_edits()
+        for lines, is_refused, has_lost in SAID:
+            check = object.__new__(edits.Check)
+            check.texts, check.lines = {"src/lib.rt": SOURCE}, edits.messages_in("\n".join(["fn low::one: proved", *lines]))
+            said = check.said_of("src/lib.rt", 1)
+            self.assertEqual((said.refusal, bool(said.lost)), (lines[0] if is_refused else None, has_lost), lines)
+
+    def test_lost_names(self) -> None:
+        said = self.try_edits([("one_renamed", [("a + 1", "renamed + 1")]), EDITS[1]])
+        self.assertEqual(said, {"one_renamed": "LOST A NAME", "two_wrong": "refused"})
+        self.assertEqual((self.lost, self.last), (["1 of them lost a name"], ("1 passed, 1 failed", 1)))
+        said = self.try_edits([("one_wrong", [("a + 1", "let b = a; b + wrong", "let b = a; renamed + 1")])])
+        self.assertEqual(said, {"one_wrong": "refused", "one_wrong, its control": "FAILED"}, "a control that has lost a name is not proved")
 
     def test_two_at_once(self) -> None:
         self.try_edits(EDITS[:2])
