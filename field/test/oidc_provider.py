@@ -1,5 +1,6 @@
 """A provider of OpenID Connect on loopback, with a key of its own: whoever comes is the person of `claims` and comes back at once.
-It checks what a provider checks: the redirect address, the client's secret, the code once, and the verifier (RFC 7636)."""
+It checks what a provider checks: the redirect address, the client's secret, the code once, and the verifier (RFC 7636). Whose browser it
+knows it asks for no password, unless `prompt` or `max_age` demand it (OpenID Connect Core 1.0 section 3.1.2.1)."""
 
 from __future__ import annotations
 
@@ -20,7 +21,7 @@ CLIENT, SECRET = "portal", "the secret of the client"
 
 class Provider(http.server.ThreadingHTTPServer):
     """`claims`: of who signs in, beside those of the protocol; `changed`: what it says wrongly in a token; `key`: that it signs
-    with; `header`: of its tokens."""
+    with; `header`: of its tokens; `asked`: how often it asked for the password; `logged_in`: when it did last."""
 
     def __init__(self) -> None:
         super().__init__(("127.0.0.1", 0), Answers)
@@ -33,6 +34,7 @@ class Provider(http.server.ThreadingHTTPServer):
         self.codes: dict[str, dict[str, str]] = {}
         self.used: list[str] = []
         self.error = ""
+        self.asked, self.logged_in = 0, int(time.time()) - 3600
         threading.Thread(target=self.serve_forever, daemon=True).start()
 
     def description(self) -> dict[str, Any]:
@@ -45,7 +47,9 @@ class Provider(http.server.ThreadingHTTPServer):
         """Where the browser goes back to."""
         if self.error:
             return f"{query['redirect_uri']}?{urllib.parse.urlencode({'error': self.error, 'state': query['state']})}"
-        code = secrets.token_urlsafe(16)
+        now, code = int(time.time()), secrets.token_urlsafe(16)
+        if "login" in query.get("prompt", "").split() or now - self.logged_in > int(query.get("max_age", now)):
+            self.asked, self.logged_in = self.asked + 1, now
         self.codes[code] = query
         return f"{query['redirect_uri']}?{urllib.parse.urlencode({'code': code, 'state': query['state']})}"
 
@@ -60,7 +64,7 @@ class Provider(http.server.ThreadingHTTPServer):
         self.used.append(form["code"])
         now = int(time.time())
         claims = {"iss": self.issuer, "aud": CLIENT, "sub": "7", "iat": now, "exp": now + 300, "nonce": asked["nonce"],
-                  **self.claims, **self.changed}
+                  "auth_time": self.logged_in if "max_age" in asked else None, **self.claims, **self.changed}
         signed = jwt.encode(self.header, {name: value for name, value in claims.items() if value is not None}, self.key)
         return 200, {"access_token": "a", "token_type": "Bearer", "id_token": signed.decode()}
 

@@ -3,11 +3,15 @@ checks what it says; what comes of it is a log-in of this counter as any other, 
 its own.
 
 A browser that goes to the provider has a cookie with a random number. Its hash stands with the state, the
-nonce and the verifier in a row of the log-ins' file, which is good once and for ten minutes.
+nonce and the verifier in a row of the log-ins' file, which is good once and for ten minutes. How many rows
+there are is counted by address, so that no computer ends the sign-in of another.
+
+What the provider or the browser says is printed by ascii(), as one line that has no sign of outside.
 """
 
 from __future__ import annotations
 
+import dataclasses
 import secrets
 import urllib.parse
 from typing import TYPE_CHECKING
@@ -20,6 +24,7 @@ from portal_field.counter.entrance import WRONG, Entrance, own_place, place
 from portal_field.counter.journal import DONE
 from portal_field.counter.logins import Logins, hashed
 from portal_field.counter.parts_client import NoPart
+from portal_field.counter.sign_in_people import AnotherPerson, Person, name_here
 from portal_field.lib.desk_client import new_number
 from portal_field.lib.forms import BadForm, Form
 from portal_field.settings.accounts import Account
@@ -30,21 +35,31 @@ if TYPE_CHECKING:
 Reply = flask.Response
 COOKIE = "__Host-sign-in"
 LONGEST = 600           # seconds at the provider
-MOST = 100              # sign-ins that are under way at a counter
+MOST_OF_ONE = 20        # sign-ins that are under way from one address
+MOST = 1000             # and from all
+KEPT = "nonce", "verifier", "begun"     # of the provider's part, until the browser is back
+FORGET_BEFORE = "DROP TABLE IF EXISTS sign_ins"     # of earlier versions, without `begun` and `place`
 SCHEMA = """
-CREATE TABLE IF NOT EXISTS sign_ins (
+CREATE TABLE IF NOT EXISTS under_way (
     cookie TEXT PRIMARY KEY,        -- SHA-256 of the cookie's number
     state TEXT NOT NULL,            -- SHA-256 of the state that the provider sends back
     nonce TEXT NOT NULL,
     verifier TEXT NOT NULL,
+    begun TEXT NOT NULL,            -- when, by the clock of who asks the provider
     back TEXT NOT NULL,             -- the page to go to afterwards
+    place TEXT NOT NULL,            -- the address of the browser
     ends INTEGER NOT NULL
 ) STRICT"""
-BEGIN = "INSERT INTO sign_ins VALUES (?, ?, ?, ?, ?, ?)"
-TAKE = "DELETE FROM sign_ins WHERE cookie = ? AND state = ? AND ends > ? RETURNING nonce, verifier, back"
+BEGIN = "INSERT INTO under_way VALUES (?, ?, ?, ?, ?, ?, ?, ?)"
+TAKE = """
+DELETE FROM under_way WHERE cookie = ? AND state = ? AND ends > ? RETURNING back, nonce, verifier, begun"""
+# Of each address the newest stay; where all are too many, those of an address that has many go first.
 FORGET = """
-DELETE FROM sign_ins WHERE ends <= ? OR cookie IN (
-    SELECT cookie FROM sign_ins ORDER BY ends DESC LIMIT -1 OFFSET ?)"""
+WITH counted AS (
+    SELECT cookie, row_number() OVER (PARTITION BY place ORDER BY rowid DESC) AS nth, rowid AS age
+    FROM under_way WHERE ends > ?1)
+DELETE FROM under_way WHERE cookie NOT IN (
+    SELECT cookie FROM counted WHERE nth <= ?2 ORDER BY nth, age DESC LIMIT ?3)"""
 
 
 class SignIns:
@@ -54,21 +69,23 @@ class SignIns:
     def __init__(self, logins: Logins) -> None:
         self.logins = logins
 
-    def begin(self, state: str, nonce: str, verifier: str, back: str) -> str:
-        """Keeps what has to come back; the number of the cookie."""
+    def begin(self, found: dict[str, str], back: str, address: str) -> str:
+        """Keeps what has to come back to a browser at an address; the number of the cookie."""
         number, now = secrets.token_hex(32), int(self.logins.now())
         with self.logins.opened() as link:
+            link.execute(FORGET_BEFORE)
             link.execute(SCHEMA)
-            link.execute(BEGIN, (hashed(number), hashed(state), nonce, verifier, back, now + LONGEST))
-            link.execute(FORGET, (now, MOST))
+            link.execute(BEGIN, (hashed(number), hashed(found["state"]), *(found[name] for name in KEPT),
+                                 back, address, now + LONGEST))
+            link.execute(FORGET, (now, MOST_OF_ONE, MOST))
         return number
 
-    def take(self, number: str, state: str) -> tuple[str, str, str] | None:
-        """Nonce, verifier and page of a sign-in that this browser began, once; else None."""
+    def take(self, number: str, state: str) -> tuple[str, dict[str, str]] | None:
+        """The page to go to and what was kept of a sign-in that this browser began, once; else None."""
         with self.logins.opened() as link:
             link.execute(SCHEMA)
             row = link.execute(TAKE, (hashed(number), hashed(state), int(self.logins.now()))).fetchone()
-        return (str(row[0]), str(row[1]), str(row[2])) if row else None
+        return (str(row[0]), dict(zip(KEPT, map(str, row[1:])))) if row else None
 
 
 class SignInPages:
@@ -91,9 +108,9 @@ class SignInPages:
         response.delete_cookie(COOKIE, secure=True, httponly=True, samesite="Lax", path="/")
         return response
 
-    def not_signed_in(self, fault: NoPart | str) -> Reply:
+    def not_signed_in(self, fault: object) -> Reply:
         """The part that asks the provider, or the provider, says no."""
-        self.entrance.note("", f"sign-in: {fault}")
+        self.entrance.note("", f"sign-in: {ascii(str(fault))}")
         self.entrance.record("", "login", WRONG)
         why = self.say("Why: %(reason)s.", reason=fault)
         return self.failed(403, self.say("You are not signed in."), why)
@@ -103,15 +120,14 @@ class SignInPages:
         form = Form.from_query(flask.request)
         try:
             question = {"ask": "begin", "redirect": self.redirect}
-            names = "url", "state", "nonce", "verifier"
-            found = parts_client.ask(self.conf["sign_in"], question)
-            url, state, nonce, verifier = (str(found[name]) for name in names)
+            answer = parts_client.ask(self.conf["sign_in"], question)
+            found = {name: str(answer[name]) for name in ("url", "state", *KEPT)}
         except (NoPart, KeyError) as fault:
-            self.entrance.note("", f"sign-in: {fault}")
+            self.entrance.note("", f"sign-in: {ascii(str(fault))}")
             return self.failed(503, self.say("The sign-in of the chain does not answer."),
                                self.say("Why: %(reason)s.", reason=fault))
-        number = self.waiting.begin(state, nonce, verifier, own_place(form.get("to", "/")))
-        response = flask.make_response(flask.redirect(url, 303))
+        number = self.waiting.begin(found, own_place(form.get("to", "/")), place())
+        response = flask.make_response(flask.redirect(found["url"], 303))
         # sent again when the provider leads back, so it is not Strict
         response.set_cookie(COOKIE, number, max_age=LONGEST, secure=True, httponly=True, samesite="Lax",
                             path="/")
@@ -124,20 +140,26 @@ class SignInPages:
             waiting = self.waiting.take(flask.request.cookies.get(COOKIE, ""), form.word("state"))
             if waiting is None:
                 raise BadForm("state")
-            nonce, verifier, back = waiting
+            back, kept = waiting
             if "error" in form:
                 return self.not_signed_in(form["error"][:60])
             found = parts_client.ask(self.conf["sign_in"], {
-                "ask": "finish", "redirect": self.redirect, "code": form.word("code"), "nonce": nonce,
-                "verifier": verifier, "venue": str(self.conf.get("venue", ""))})
-            account = Account(str(found["name"]), str(found["role"]), "")
+                "ask": "finish", "redirect": self.redirect, "code": form.word("code"), **kept,
+                "venue": str(self.conf.get("venue", ""))})
+            person = Person(**{each.name: str(found[each.name]) for each in dataclasses.fields(Person)})
         except BadForm:
             return self.failed(400, self.say("This sign-in has ended, or was not begun here. Begin it anew."))
         except (NoPart, KeyError) as fault:
             return self.not_signed_in(fault if isinstance(fault, NoPart) else f"{fault} is missing")
-        if account.name in self.logins.accounts.now:
-            return self.not_signed_in("an account of this counter has this name")
-        return self.comes_in(account, back)
+        return self.by_name(person, back)
+
+    def by_name(self, person: Person, back: str) -> Reply:
+        """Lets a person in, by the name that is this person's here."""
+        try:
+            name = name_here(self.page.counter.journal, person, self.logins.accounts.now)
+        except AnotherPerson as fault:
+            return self.not_signed_in(fault)
+        return self.comes_in(Account(name, person.role, ""), back)
 
     def comes_in(self, account: Account, back: str) -> Reply:
         """Begins the log-in. The page leads on by itself: a redirect from another site would come without the

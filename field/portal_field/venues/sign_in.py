@@ -2,11 +2,13 @@
 
 systemd starts one for each connection to its socket, which the counters' page alone may open. It alone has
 the client's secret and a way to the provider, and checks the ID token with authlib: signature, issuer,
-audience, end and nonce. Which claim gives which role at which venue stands in its settings.
+audience, end and nonce. A counter's computer is several people's, so the provider is to ask for the password
+at each sign-in, and `auth_time` has to say that it did (OpenID Connect Core 1.0 section 3.1.2.1). Which claim
+gives which role at which venue stands in its settings.
 
 A question is a JSON object of one connection, up to its end: `ask` is "begin" with `redirect`, or "finish"
-with `redirect`, `code`, `nonce`, `verifier` and `venue`. The answer is an object: `url`, `state`, `nonce` and
-`verifier`, or `name` and `role`, or `fault` in English.
+with `redirect`, `code`, `nonce`, `verifier`, `begun` and `venue`. The answer is an object: `url`, `state`,
+`nonce`, `verifier` and `begun`; or who it is (`SignIn.person`); or `fault` in English.
 """
 
 from __future__ import annotations
@@ -35,6 +37,11 @@ ALL = "*"                   # of `venues`
 PATIENCE = 8                # seconds for each request to the provider
 LEEWAY = 60                 # seconds by which the provider's clock may differ
 MOST = 16_384               # bytes of a question
+LONGEST_SUB = 255           # characters, of ASCII (OpenID Connect Core 1.0 section 2)
+# Claims that are one person's, and another's once that one has taken it (section 5.7).
+PERSONAL = frozenset((
+    "email", "family_name", "given_name", "middle_name", "name", "nickname", "phone_number", "picture",
+    "preferred_username", "profile", "unique_name", "upn", "website"))
 ALGORITHMS = ["RS256", "RS384", "RS512", "PS256", "PS384", "PS512", "ES256", "ES384", "ES512", "EdDSA"]
 
 
@@ -56,6 +63,8 @@ class Rule:
 
     def fits(self, claims: dict[str, Any], venue: str) -> bool:
         """Whether it gives its role to these claims at a venue."""
+        if self.claim == "email" and claims.get("email_verified") is False:
+            return False
         found = claims.get(self.claim)
         has = self.value in found if isinstance(found, list) else found == self.value
         return has and bool({venue, ALL} & set(self.venues))
@@ -107,8 +116,10 @@ class SignIn:
         """What changes with these settings: a log-in of before ends then."""
         return hashlib.sha256(json.dumps(dataclasses.asdict(self)).encode()).hexdigest()
 
-    def person(self, claims: dict[str, Any], venue: str) -> tuple[str, str]:
-        """Name and role at a venue. Fault: the claims give none."""
+    def person(self, claims: dict[str, Any], venue: str) -> dict[str, str]:
+        """Who comes to a venue: `name`, `role`, `provider` and `sub`, which alone says who it is (OpenID
+        Connect Core 1.0 section 5.7), and `claim` with `value` where the role is one person's by such a
+        claim, else empty. Fault: the claims give no name or role."""
         rule = next((rule for rule in self.role if rule.fits(claims, venue)), None)
         if rule is None:
             raise Fault("this sign-in gives no role at this venue")
@@ -117,7 +128,12 @@ class SignIn:
             raise Fault(f"the claim {self.name_claim} has no name")
         if self.name_claim == "email" and claims.get("email_verified") is False:
             raise Fault("the provider has not verified this address")
-        return name, rule.role
+        sub = claims.get("sub")
+        if not isinstance(sub, str) or not sub.isascii() or not 0 < len(sub) <= LONGEST_SUB:
+            raise Fault(f"the claim sub is no text of 1 to {LONGEST_SUB} characters of ASCII")
+        claim, value = (rule.claim, rule.value) if rule.claim in PERSONAL else ("", "")
+        return {"name": name, "role": rule.role, "provider": f"{self.issuer} {self.client_id}", "sub": sub,
+                "claim": claim, "value": value}
 
 
 def is_loopback(host: str) -> bool:
@@ -164,14 +180,16 @@ class Provider:
 
     def begin(self) -> dict[str, Any]:
         """Where the browser is to go, and what has to come back."""
-        verifier, nonce = secrets.token_urlsafe(48), secrets.token_urlsafe(24)
+        verifier, nonce, begun = secrets.token_urlsafe(48), secrets.token_urlsafe(24), int(time.time())
+        # prompt alone is for the provider to heed or not; of max_age it has to say in auth_time what it did
         url, state = self.session.create_authorization_url(
             self.about["authorization_endpoint"], code_verifier=verifier, nonce=nonce,
-            state=secrets.token_urlsafe(24))
-        return {"url": url, "state": state, "nonce": nonce, "verifier": verifier}
+            state=secrets.token_urlsafe(24), prompt="login", max_age=LEEWAY)
+        return {"url": url, "state": state, "nonce": nonce, "verifier": verifier, "begun": str(begun)}
 
-    def claims(self, code: str, verifier: str, nonce: str) -> dict[str, Any]:
-        """The claims of who comes back with a code, by an ID token that was checked."""
+    def claims(self, code: str, verifier: str, nonce: str, begun: int) -> dict[str, Any]:
+        """The claims of who comes back with a code, by an ID token that was checked, and of a log-in at the
+        provider since this sign-in began."""
         from authlib.jose import JsonWebKey, JsonWebToken
         from authlib.oidc.core import CodeIDToken
         token = self.session.fetch_token(
@@ -187,7 +205,16 @@ class Provider:
             claims_params={"nonce": nonce, "client_id": self.conf.client_id,
                            "access_token": token.get("access_token", "")})
         claims.validate(now=int(time.time()), leeway=LEEWAY)
+        check_moment(claims.get("auth_time"), begun)
         return dict(claims)
+
+
+def check_moment(moment: object, begun: int) -> None:
+    """Fault: this is no `auth_time` of a log-in at the provider since then."""
+    if isinstance(moment, bool) or not isinstance(moment, (int, float)):
+        raise Fault("the provider does not say when it asked for the password (the claim auth_time)")
+    if not begun - LEEWAY <= moment <= time.time() + LEEWAY:
+        raise Fault("the provider did not ask for the password anew (the claim auth_time)")
 
 
 def answered(question: dict[str, Any], conf: SignIn) -> dict[str, Any]:
@@ -196,9 +223,9 @@ def answered(question: dict[str, Any], conf: SignIn) -> dict[str, Any]:
         provider = Provider(conf, question["redirect"])
         if question["ask"] == "begin":
             return provider.begin()
-        claims = provider.claims(question["code"], question["verifier"], question["nonce"])
-        name, role = conf.person(claims, question["venue"])
-        return {"name": name, "role": role}
+        claims = provider.claims(question["code"], question["verifier"], question["nonce"],
+                                 int(question["begun"]))
+        return conf.person(claims, question["venue"])
     except ImportError as fault:
         raise Fault("the Debian packages python3-authlib and python3-requests are not installed") from fault
     except KeyError as fault:
