@@ -31,7 +31,7 @@ def make_copy(goal: pathlib.Path, mutants: list[Mutant]) -> str:
     for name in ("VERSION", "CHANGELOG.md", "crates.txt", "LICENSE-MIT", "LICENSE-APACHE", "pyproject.toml"):
         shutil.copy(TOP / name, goal / name)
     (goal / "tools").mkdir()
-    for name in ("release", "verify", "version"):
+    for name in ("current", "release", "verify", "version"):
         shutil.copy(TOP / "tools" / name, goal / "tools" / name)
     try:
         for mutant in mutants:
@@ -52,10 +52,12 @@ def run_tests(copy: pathlib.Path, command: list[str], tests: list[str],
     """The tests of a copy that fail, each with what it says first."""
     script, *words = command
     words += ["--portal", str(args.portal)] if args.portal else []
-    words += ["--base", str(args.base)] if script == "deb/test/run" else []
-    # the history has the version before, whose package deb/test/run makes
-    done = subprocess.run([str(copy / script), *words, *dict.fromkeys(tests)], capture_output=True, text=True,
-                          env={**os.environ, "GIT_DIR": str(TOP / ".git")})
+    env = dict(os.environ)
+    if script == "deb/test/run":
+        words += ["--base", str(args.base)]
+        # it makes the package of the version before, which is in the history; tests of a release commit and tag
+        env["GIT_DIR"] = str(TOP / ".git")
+    done = subprocess.run([str(copy / script), *words, *dict.fromkeys(tests)], capture_output=True, text=True, env=env)
     if args.logs:
         (args.logs / f"{copy.name}.log").write_text(done.stdout + done.stderr)
     lines = [line.removeprefix("FAIL ").partition(": ") for line in done.stdout.splitlines()

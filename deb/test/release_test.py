@@ -2,6 +2,7 @@
 
 from __future__ import annotations
 
+import datetime
 import json
 import os
 import pathlib
@@ -142,14 +143,39 @@ def test_sums(made: pathlib.Path) -> None:
     assert sums.returncode == 0 and sorted(listed) == every, "SHA256SUMS has every file"
 
 
-def verify(folder: pathlib.Path, key: pathlib.Path) -> subprocess.CompletedProcess[str]:
-    """What the script of the tree says of a release, for a public key."""
-    return run(TOP / "tools/verify", "--key", key, folder)
+def verify(folder: pathlib.Path, key: pathlib.Path, wanted: str = VERSION) -> subprocess.CompletedProcess[str]:
+    """What the script of the tree says of a release, for a public key and a version."""
+    return run(TOP / "tools/verify", "--key", key, "--version", wanted, folder)
+
+
+def sign_sums(folder: pathlib.Path, key: pathlib.Path) -> None:
+    """Makes the sums of a release anew, and their signature, by this key."""
+    for name in ("SHA256SUMS", "SHA256SUMS.minisig"):
+        (folder / name).unlink()
+    sums = run("sha256sum", *sorted(path.name for path in folder.iterdir()), cwd=folder, ok=True).stdout
+    (folder / "SHA256SUMS").write_text(sums)
+    run("minisign", "-S", "-s", key, "-c", "signature of a release of portal", "-m", folder / "SHA256SUMS", ok=True)
+
+
+@pytest.fixture
+def copy(made: pathlib.Path) -> Iterator[pathlib.Path]:
+    """The release's folder, which a test may change."""
+    with tempfile.TemporaryDirectory() as folder:
+        shutil.copytree(made, goal := pathlib.Path(folder) / "release")
+        yield goal
+
+
+@pytest.fixture
+def current(copy: pathlib.Path, made: pathlib.Path, one_repository: pathlib.Path, key: pathlib.Path) -> pathlib.Path:
+    """The list of the current release, in the folder above."""
+    done = run(one_repository / "tools/current", "--key", key, VERSION, copy.parent)
+    assert done.returncode == 0, f"the list of the current release is made and signed  [{output(done)}]"
+    return copy.parent / "CURRENT"
 
 
 def test_verification(room: pathlib.Path, made: pathlib.Path, key: pathlib.Path) -> None:
     done = verify(made, key.with_suffix(".pub"))
-    by_words = run(made / "verify", "--key", key.with_suffix(".pub").read_text().split()[-1], made)
+    by_words = run(made / "verify", "--key", key.with_suffix(".pub").read_text().split()[-1], "--version", VERSION, made)
     assert done.returncode == by_words.returncode == 0 and f"portal {VERSION}: " in done.stdout, (
         f"a release is verified by its key, also by the script in it  [{output(done)}]")
     run("minisign", "-G", "-W", "-s", room / "other", "-p", room / "other.pub", ok=True)
@@ -159,45 +185,135 @@ def test_verification(room: pathlib.Path, made: pathlib.Path, key: pathlib.Path)
 
 @pytest.mark.parametrize("place", [0.5, 0.1])
 @pytest.mark.parametrize("name", NAMES)
-def test_a_changed_byte_is_refused(made: pathlib.Path, key: pathlib.Path, name: str, place: float) -> None:
-    with tempfile.TemporaryDirectory() as folder:
-        copy = pathlib.Path(folder) / "release"
-        shutil.copytree(made, copy)
-        data = bytearray((copy / name).read_bytes())
-        data[int(len(data) * place)] ^= 1
-        (copy / name).write_bytes(data)
-        done = verify(copy, key.with_suffix(".pub"))
+def test_a_changed_byte_is_refused(copy: pathlib.Path, key: pathlib.Path, name: str, place: float) -> None:
+    data = bytearray((copy / name).read_bytes())
+    data[int(len(data) * place)] ^= 1
+    (copy / name).write_bytes(data)
+    done = verify(copy, key.with_suffix(".pub"))
     assert done.returncode == 1, f"one changed byte of {name} is refused  [{output(done)}]"
 
 
 @pytest.mark.parametrize("name, word", [("left", "does not have left"), ("BUILT", "is missing")])
-def test_a_file_more_or_less_is_refused(made: pathlib.Path, key: pathlib.Path, name: str, word: str) -> None:
-    with tempfile.TemporaryDirectory() as folder:
-        copy = pathlib.Path(folder) / "release"
-        shutil.copytree(made, copy)
-        if (copy / name).exists():
-            (copy / name).unlink()
-        else:
-            (copy / name).touch()
-        done = verify(copy, key.with_suffix(".pub"))
+def test_a_file_more_or_less_is_refused(copy: pathlib.Path, key: pathlib.Path, name: str, word: str) -> None:
+    if (copy / name).exists():
+        (copy / name).unlink()
+    else:
+        (copy / name).touch()
+    done = verify(copy, key.with_suffix(".pub"))
     assert done.returncode == 1 and word in done.stderr, f"a file more or less is refused  [{output(done)}]"
 
 
-def test_another_program_is_refused_though_it_is_signed(made: pathlib.Path, key: pathlib.Path) -> None:
+@pytest.mark.parametrize("name", [f"portal_{VERSION}.amd64.deb", f"ortal_{VERSION}_amd64.deb"], ids=["expression", "part"])
+def test_a_name_is_compared_whole(copy: pathlib.Path, key: pathlib.Path, name: str) -> None:
+    """`apt install ./*.deb` would take each of them."""
+    (copy / name).touch()
+    done = verify(copy, key.with_suffix(".pub"))
+    assert done.returncode == 1 and "does not have" in done.stderr, f"a further file is refused by its whole name  [{output(done)}]"
+
+
+def test_a_hidden_file_is_refused(copy: pathlib.Path, key: pathlib.Path) -> None:
+    (copy / ".pc").mkdir()
+    done = verify(copy, key.with_suffix(".pub"))
+    assert done.returncode == 1 and "does not have .pc" in done.stderr, f"a hidden file or folder is refused  [{output(done)}]"
+
+
+def test_another_program_is_refused_though_it_is_signed(copy: pathlib.Path, key: pathlib.Path) -> None:
     """Whoever signs may have taken another package by mistake."""
-    with tempfile.TemporaryDirectory() as folder:
-        copy = pathlib.Path(folder) / "release"
-        shutil.copytree(made, copy)
-        built = copy / "BUILT"
-        built.write_text(re.sub("(?m)^sha256: .", "sha256: x", built.read_text()))
-        (copy / "SHA256SUMS").unlink()
-        (copy / "SHA256SUMS.minisig").unlink()
-        sums = run("sha256sum", *sorted(path.name for path in copy.iterdir()), cwd=copy, ok=True).stdout
-        (copy / "SHA256SUMS").write_text(sums)
-        run("minisign", "-S", "-s", key, "-c", "signature of a release of portal", "-m", copy / "SHA256SUMS", ok=True)
-        done = verify(copy, key.with_suffix(".pub"))
+    built = copy / "BUILT"
+    built.write_text(re.sub("(?m)^sha256: .", "sha256: x", built.read_text()))
+    sign_sums(copy, key)
+    done = verify(copy, key.with_suffix(".pub"))
     assert done.returncode == 1 and "is not that of BUILT" in done.stderr, (
         f"a package with another program than BUILT says is refused  [{output(done)}]")
+
+
+# Which version it is
+
+def test_another_version_than_wanted_is_refused(copy: pathlib.Path, key: pathlib.Path) -> None:
+    done = verify(copy, key.with_suffix(".pub"), "9.9.9")
+    assert done.returncode == 1 and f"this is portal {VERSION}, and not 9.9.9" in done.stderr, (
+        f"a release of another version than the wanted one is refused  [{output(done)}]")
+    done = run(TOP / "tools/verify", "--key", key.with_suffix(".pub"), copy)
+    assert done.returncode == 1 and "give --version" in done.stderr, f"a version has to be wanted  [{output(done)}]"
+
+
+def by_list(copy: pathlib.Path, key: pathlib.Path) -> subprocess.CompletedProcess[str]:
+    """What the script of the tree says of a release, by the list in the folder above."""
+    return run(TOP / "tools/verify", "--key", key.with_suffix(".pub"), "--current", copy.parent / "CURRENT", copy)
+
+
+def test_the_list_of_the_current_release(copy: pathlib.Path, current: pathlib.Path, key: pathlib.Path) -> None:
+    today = datetime.datetime.now(datetime.timezone.utc).date()
+    assert current.read_text() == f"version: {VERSION}\nday: {today}\n", "the list has version and day"
+    done = by_list(copy, key)
+    assert done.returncode == 0, f"a release that the list names is verified  [{output(done)}]"
+    current.write_text(f"version: 9.9.9\nday: {today}\n")
+    done = by_list(copy, key)
+    assert done.returncode == 1 and "CURRENT is not signed by this key" in done.stderr, f"a list that was changed is refused  [{output(done)}]"
+
+
+@pytest.mark.parametrize("version, days, word", [
+    pytest.param("9.9.9", 0, f"this is portal {VERSION}, and not 9.9.9", id="newer"),
+    pytest.param(VERSION, 93, "get the newest one", id="old"), pytest.param(VERSION, -2, "get the newest one", id="of_later"),
+    pytest.param("", 0, "names no version and day", id="no_version"), pytest.param(VERSION, None, "names no version and day", id="no_day")])
+def test_a_list_that_does_not_name_it_now_is_refused(copy: pathlib.Path, current: pathlib.Path, key: pathlib.Path, version: str,
+                                                     days: int | None, word: str) -> None:
+    day = "" if days is None else str(datetime.datetime.now(datetime.timezone.utc).date() - datetime.timedelta(days))
+    current.write_text(f"version: {version}\nday: {day}\n")
+    run("minisign", "-S", "-s", key, "-m", current, ok=True)
+    done = by_list(copy, key)
+    assert done.returncode == 1 and word in done.stderr, f"a release that the list does not name now is refused  [{output(done)}]"
+
+
+def test_a_list_of_92_days_is_taken(copy: pathlib.Path, current: pathlib.Path, key: pathlib.Path) -> None:
+    day = datetime.datetime.now(datetime.timezone.utc).date() - datetime.timedelta(92)
+    current.write_text(f"version: {VERSION}\nday: {day}\n")
+    run("minisign", "-S", "-s", key, "-m", current, ok=True)
+    done = by_list(copy, key)
+    assert done.returncode == 0, f"a list of 92 days ago is taken  [{output(done)}]"
+
+
+def test_a_list_without_a_release_is_refused(made: pathlib.Path, one_repository: pathlib.Path, key: pathlib.Path,
+                                             copy: pathlib.Path) -> None:
+    done = run(one_repository / "tools/current", "--key", key, "9.9.9", copy.parent)
+    assert done.returncode == 1 and "there is no tag v9.9.9" in done.stderr and not (copy.parent / "CURRENT").exists(), (
+        f"no list is made of a version without a tag  [{output(done)}]")
+
+
+# By Debian's own commands
+
+def typed(copy: pathlib.Path, key: pathlib.Path) -> subprocess.CompletedProcess[str]:
+    """What docs/INSTALL.md says to type in the folder of a release before anything of it runs."""
+    page = (TOP / "docs/INSTALL.md").read_text().partition("\n## Get the package\n")[2]
+    block = page.partition("```console\n")[2].partition("```")[0]
+    lines = [line.removeprefix("$ ") for line in block.splitlines() if "apt install" not in line]
+    assert len(lines) == 3 and {line.split()[0] for line in lines} == {"minisign", "sha256sum"}, f"they are Debian's commands  [{lines}]"
+    words = key.with_suffix(".pub").read_text().split()[-1]
+    return run("bash", "-e", "-c", "\n".join(lines).replace("PUBLICKEY", words), cwd=copy)
+
+
+def test_commands_of_debian(copy: pathlib.Path, current: pathlib.Path, key: pathlib.Path) -> None:
+    done = typed(copy, key)
+    assert done.returncode == 0 and f"version: {VERSION}\nday: " in done.stdout and f"Trusted comment: portal {VERSION}\n" in done.stdout, (
+        f"Debian's own commands verify a release, and name its version  [{output(done)}]")
+    (copy.parent / "CURRENT").write_text("version: 9.9.9\n")
+    assert typed(copy, key).returncode == 1, "and refuse a list that the owner did not sign"
+
+
+def test_a_script_of_an_attacker_is_refused(copy: pathlib.Path, current: pathlib.Path, room: pathlib.Path, key: pathlib.Path) -> None:
+    """Who can change the package can change `verify` beside it, and sign both by another key."""
+    (copy / "verify").write_text("#!/bin/sh\necho 'portal: signature, files and the program inside are right'\n")
+    (copy / f"portal_{VERSION}_amd64.deb").write_bytes(b"another")
+    assert run("bash", copy / "verify").returncode == 0, "such a script says what it likes"
+    assert typed(copy, key).returncode == 1, "Debian's commands refuse the changed files"
+    run("minisign", "-G", "-f", "-W", "-s", room / "evil", "-p", room / "evil.pub", ok=True)
+    sign_sums(copy, room / "evil")
+    assert typed(copy, key).returncode == 1, "and another key"
+
+
+def test_the_package_is_named_whole() -> None:
+    names = re.findall(r"apt install (\S*portal_\S*)", (TOP / "docs/INSTALL.md").read_text())
+    assert names and not [name for name in names if "*" in name], f"the package is installed by its whole name  [{names}]"
 
 
 def test_notes_and_tag(made: pathlib.Path, one_repository: pathlib.Path) -> None:
@@ -223,7 +339,7 @@ def test_dry_run(room: pathlib.Path, key: pathlib.Path) -> None:
         f"a dry run makes all, and says what a release is refused for  [{output(done)}]")
     assert (room / f"dry/portal_{version}_amd64.deb").exists() and "- new" in (room / "dry/NOTES").read_text(), (
         f"its version is the next one with ~dev, the time and the commit  [{version}]")
-    assert verify(room / "dry", key.with_suffix(".pub")).returncode == 0, "the verification accepts it"
+    assert verify(room / "dry", key.with_suffix(".pub"), version).returncode == 0, "the verification accepts it"
     assert not run("git", "-C", top, "tag").stdout, "and it makes no tag"
     older = run("dpkg", "--compare-versions", version, "lt", f"{first}.{int(last) + 1}")
     newer = run("dpkg", "--compare-versions", version, "gt", VERSION)

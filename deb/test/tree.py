@@ -34,7 +34,7 @@ def copy_tree(goal: pathlib.Path) -> pathlib.Path:
     for name in ("VERSION", "CHANGELOG.md", "crates.txt"):
         shutil.copy(TOP / name, goal / name)
     (goal / "tools").mkdir()
-    for name in ("release", "verify", "version"):
+    for name in ("current", "release", "verify", "version"):
         shutil.copy(TOP / "tools" / name, goal / "tools" / name)
     return goal
 
