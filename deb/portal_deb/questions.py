@@ -11,12 +11,16 @@ from collections.abc import Callable
 from dataclasses import dataclass
 from typing import Any
 
+from babel.numbers import get_territory_currencies
+
+from portal_field.doctor.certificates import no_certificate_for
 from portal_field.lib.zones import ZONES, rule_in, rule_of
 
 Lines = dict[str, Any]      # keys of field.toml and their values
 NOTHING = "-"       # the answer that leaves a line empty
 VALUE = r'"(?:[^"\\]|\\.)*"|\[[^\]]*\]|[^#\s][^#\n]*?'
-LOCAL_TIME = pathlib.Path("/etc/localtime")
+LOCAL_TIME, COUNTRIES = pathlib.Path("/etc/localtime"), ZONES / "zone.tab"
+SINCE = {"HR": "EUR", "BG": "EUR"}      # later than in Debian's python3-babel
 
 
 def with_lines(text: str, lines: Lines) -> str:
@@ -39,6 +43,17 @@ def leases_in(address: str) -> list[str]:
         first, last = max((first, int(own.ip) - 1), (int(own.ip) + 1, last),
                           key=lambda pair: pair[1] - pair[0])
     return [str(ipaddress.IPv4Address(first)), str(ipaddress.IPv4Address(last)), "1h"]
+
+
+def currency_in(zone: str) -> str:
+    """The currency of the country that a time zone is of, by its name; nothing where that is not known."""
+    try:
+        rows = (line.split("\t") for line in COUNTRIES.read_text().splitlines() if not line.startswith("#"))
+        country = next((row[0] for row in rows if row[2:3] == [zone]), "")
+    except OSError:
+        return ""
+    known = SINCE.get(country) or next(iter(get_territory_currencies(country)), "") if country else ""
+    return str(known)
 
 
 class Here:
@@ -116,11 +131,12 @@ QUESTIONS = (
     Question("counter_language", "The language of the counter's page: en or de",
              lambda here, so_far: str(so_far["counter_language"])),
     Question("currency", "The currency of the prices, such as EUR; - for none",
-             lambda here, so_far: str(so_far["currency"] or NOTHING)),
+             lambda here, so_far: str(so_far["currency"] or currency_in(so_far["typed_zone"]) or NOTHING)),
     Question("wifi", "The Wi-Fi's name, which is printed on each voucher; - to print none",
              lambda here, so_far: str(so_far["wifi"] or NOTHING)),
     Question("wifi_password", "The Wi-Fi's password, where it has one; - for none",
              lambda here, so_far: str(so_far["wifi_password"] or NOTHING)))
+OF_A_CERTIFICATE = {"name", "counter_name"}
 OPTIONAL = {"currency", "wifi", "wifi_password"}        # that a venue may do without
 
 
@@ -135,10 +151,18 @@ def lines_of(key: str, answer: str) -> Lines:
     return {key: answer, "leases": leases_in(answer)} if key == "guests" else {key: answer}
 
 
+def check_names(lines: Lines) -> None:
+    """ValueError: one of these is a name that nobody can have a certificate for."""
+    for key in OF_A_CERTIFICATE & lines.keys():
+        if fault := no_certificate_for(lines[key]):
+            raise ValueError(f"{fault}; only to see how it works: portal-setup --first-look")
+
+
 def ask_all(text: str, read: Callable[[str], object], so_far: Lines, here: Here,
-            say: Callable[[str], None] = print, hear: Callable[[str], str] = input) -> str:
+            say: Callable[[str], None] = print, hear: Callable[[str], str] = input,
+            takes_any_name: bool = False) -> str:
     """Asks the questions. The text with the answers in it. `read` raises ValueError where a line is not what
-    it must be."""
+    it must be. `takes_any_name`: also one that nobody can have a certificate for."""
     say("An empty answer takes what is in [ ].")
     so_far = dict(so_far)
     for question in QUESTIONS:
@@ -146,13 +170,17 @@ def ask_all(text: str, read: Callable[[str], object], so_far: Lines, here: Here,
             continue        # nothing would print it
         words = question.words.format(devices=", ".join(here.devices) or "there is none")
         default = question.default(here, so_far)
+        if question.key in OF_A_CERTIFICATE and not takes_any_name and no_certificate_for(default):
+            default = ""
         while True:
-            answer = hear(f"{words} [{default}]: ").strip() or default
+            answer = hear(f"{words} [{default}]: " if default else f"{words}: ").strip() or default
             try:
                 lines = lines_of(question.key, answer)
+                if not takes_any_name:
+                    check_names(lines)
                 read(with_lines(text, lines))
                 break
             except ValueError as fault:
                 say(f"  no: {fault}")
-        text, so_far = with_lines(text, lines), {**so_far, **lines}
+        text, so_far = with_lines(text, lines), {**so_far, **lines, f"typed_{question.key}": answer}
     return text

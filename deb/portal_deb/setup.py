@@ -4,12 +4,16 @@ edit.
     portal-setup [--ask] [--clerk NAME [--role ROLE]] [--first-look] [--prices-as-shipped] [FIELD.TOML]
     portal-setup --renew
 
+It checks all, then changes all: where something is wrong, or a password is refused, nothing is changed but
+the answers, which stay in field.toml and plans.toml.
+
 On a terminal, with field.toml still as the package brought it (or with --ask), it asks for what it needs.
 FIELD.TOML is taken in that file's place. --clerk NAME makes that clerk's account, or gives it a new password,
 from the terminal or standard input; it has at least ten characters. --role: clerk or manager; the first
-account is a manager's. --first-look makes a certificate that only this machine
-vouches for, where there is none. Before the first start the prices are asked for, too; without a terminal
-plans.toml must be another one than the package brought, or --prices-as-shipped takes it.
+account is a manager's. --first-look makes a certificate that only this machine vouches for, where there is
+none, and takes names that no other certificate can be had for. Before the first start the prices are asked
+for, too; without a terminal plans.toml must be another one than the package brought, or --prices-as-shipped
+takes it.
 --renew, for the package's upgrades, starts nothing that does not run.
 """
 
@@ -24,16 +28,17 @@ import shutil
 import subprocess
 import sys
 import time
-
+from dataclasses import dataclass
 
 from portal_deb import first_look, price_questions, questions
 from portal_field import KIT
+from portal_field.doctor.certificates import certificate
 from portal_field.doctor.findings import Machine, State, findings_of
 from portal_field.doctor.network import is_on_every_address
 from portal_field.doctor.prices import plans
 from portal_field.settings import accounts, clerk_account
 from portal_field.settings.accounts import fault_of_name
-from portal_field.settings.maker import Maker, examine, print_findings, print_venue_fault
+from portal_field.settings.maker import Maker, are_files_good, examine, fault_of_settings, print_findings
 from portal_field.settings.samples import is_sample
 from portal_field.settings.venue import BadSettings, Field
 
@@ -59,6 +64,16 @@ DEFAULT_SITE = pathlib.Path("/etc/nginx/sites-enabled/default")
 DISABLED = ETC / "nginx-default-site"       # says that set-up disabled it: a removal enables it again
 
 
+@dataclass(frozen=True)
+class Wanted:
+    """What set-up is to make: of which settings, for a clerk with a new password, with a certificate for a
+    first look."""
+    field: Field
+    path: pathlib.Path
+    clerk: str
+    first_look: bool
+
+
 def run(*words: str, check: bool = True) -> subprocess.CompletedProcess[str]:
     """Runs a command, and keeps what it prints."""
     return subprocess.run(words, check=check, capture_output=True, text=True)
@@ -82,7 +97,7 @@ def read_settings(text: str) -> Field:
         raise ValueError(str(fault)) from fault
 
 
-def ask() -> None:
+def ask(is_first_look: bool) -> None:
     """Asks for what a venue must choose, and writes the answers into field.toml. Each must be what it must
     be, the zone by the program's own word."""
     def read(given: str) -> None:
@@ -91,8 +106,9 @@ def ask() -> None:
             if finding.state is State.WRONG:
                 raise ValueError(finding.what)
 
-    text = FIELD.read_text()
-    text = questions.ask_all(text, read, vars(read_settings(text)), questions.Here())
+    field, text = Field.in_file(FIELD), FIELD.read_text()
+    takes_any = is_first_look or not first_look.is_needed(field)
+    text = questions.ask_all(text, read, vars(field), questions.Here(), takes_any_name=takes_any)
     replace(FIELD, text, SECRET)
     print(f"portal-setup: the answers are in {FIELD}; whatever else can be chosen stands there, too")
 
@@ -126,24 +142,22 @@ def ask_name() -> str:
     return name
 
 
-def set_account(name: str, role: str) -> None:
-    """Makes a clerk's account, or gives it a new password and this role."""
-    clerk_account.set_account(ETC, name, role,
-                              lambda path, text: replace(path, text, accounts.MODE, accounts.GROUP))
-
-
 def has_accounts() -> bool:
     """Whether anybody can log in at the counter, also by the password file of an earlier version."""
     return (ETC / accounts.FILE).exists() or (ETC / accounts.BEFORE).exists()
 
 
-def may_begin(field: Field, path: pathlib.Path, prices_as_shipped: bool) -> bool:
+def may_begin(wanted: Wanted, prices_as_shipped: bool) -> bool:
     """Whether the installation may begin; says what is missing: by the doctor's checks before it, and a
     clerk's password."""
-    fine = print_findings(path, examine(field, pathlib.Path("/"), "/usr/bin/portal", prices_as_shipped))
-    if not has_accounts():
-        print("portal-setup: no clerk has a password: portal-setup --clerk NAME", file=sys.stderr)
-    return bool(fine) and has_accounts()
+    but = (certificate,) if wanted.first_look else ()
+    if not are_files_good(wanted.field, wanted.path, ETC):
+        return False
+    findings = examine(wanted.field, pathlib.Path("/"), "/usr/bin/portal", prices_as_shipped, but)
+    fine, has_clerk = print_findings(wanted.path, findings), wanted.clerk != "" or has_accounts()
+    if not has_clerk:
+        print("portal-setup: no clerk has a password\n    do: `portal-setup --clerk NAME`", file=sys.stderr)
+    return bool(fine) and has_clerk
 
 
 def put_hand_made_aside() -> None:
@@ -211,10 +225,19 @@ class Keeper(Maker):
         return old is None or old[0] != path.read_bytes()
 
 
-def write_files(field: Field, args: argparse.Namespace) -> Keeper:
+def write_files(wanted: Wanted, args: argparse.Namespace) -> Keeper:
     """Makes every file. The keeper of those that were there before."""
+    field, before = wanted.field, FIELD.with_name("field.toml.before")
     maker = Keeper(field, args.prices_as_shipped)
     maker.counter_is_apart = not args.renew or has_room_apart(field)
+    if not (FIELD.exists() and FIELD.samefile(wanted.path)):
+        if FIELD.exists():
+            maker.write(before, FIELD.read_text(), SECRET)
+        maker.write(FIELD, wanted.path.read_text(), SECRET)
+    if wanted.first_look:
+        for name in (field.cert, field.key):
+            maker.keep(pathlib.Path(name))
+        first_look.make(field)
     maker.settings()
     maker.others()
     maker.write(ETC / "server.env", f"PORTAL_PORT={field.desk_port}\n")
@@ -366,7 +389,8 @@ def next_steps(field: Field, waits: bool) -> str:
     steps = ["Say on the counter's page that the time is right."] if waits else []
     steps += [f"At the counter's computer open https://{field.counter_name}/ (clerk: {clerks}). Where that "
               f"name is not known yet: a line `{counter} {field.counter_name}` in its hosts file.",
-              "Issue a batch there, print it, sell a voucher. Prices are in /etc/portal/plans.toml.",
+              "Issue a batch there, print it, sell a voucher. Prices are in /etc/portal/plans.toml"
+              + ("." if field.currency else ", shown without a currency: `currency` in field.toml."),
               f"Join the guests' network with a phone: it is led to https://{field.name}/portal ({guests})."]
     lines = [f"    {number}. {step}" for number, step in enumerate(steps, 1)]
     own = [first_look.real_one(field)] if first_look.is_own(field) else []
@@ -401,33 +425,26 @@ def wants_first_look() -> bool:
     return answer.strip()[:1] in ("", "y", "Y")
 
 
-def prepare(args: argparse.Namespace) -> Field | None:
-    """Asks what is to be asked, and looks whether all is there for a start. The settings; None where
-    something is wrong, which was said."""
-    asks = args.ask or sys.stdin.isatty() and not args.settings and not args.renew and is_sample(FIELD)
+def asks(args: argparse.Namespace) -> bool:
+    """Whether it asks for what field.toml needs: on a terminal, while that is the sample; or with --ask."""
+    is_new = not args.settings and not args.renew and FIELD.exists() and is_sample(FIELD)
+    return bool(args.ask or sys.stdin.isatty() and is_new)
+
+
+def hear(args: argparse.Namespace) -> Wanted:
+    """Asks what is to be asked, and writes the answers into field.toml and plans.toml. What is wanted.
+    BadSettings, OSError: the settings cannot be read."""
     path: pathlib.Path = args.settings or FIELD
-    try:
-        if asks:
-            ask()
-        field = read_settings(path.read_text())
-        hears = (asks or sys.stdin.isatty()) and not args.renew and not args.prices_as_shipped
-        if hears and are_prices_open():
-            ask_prices()
-    except (ValueError, OSError) as fault:
-        print(f"portal-setup: {path}: {fault}", file=sys.stderr)
-        return None
-    clerk = args.clerk or (ask_name() if asks and not has_accounts() else "")
-    if clerk:
-        set_account(clerk, args.role or "")
-    if first_look.is_needed(field) and (args.first_look or asks and wants_first_look()):
-        first_look.make(field)
-    if not args.renew and not (print_venue_fault(ETC) and may_begin(field, path, args.prices_as_shipped)):
-        return None
-    if path != FIELD and not (FIELD.exists() and FIELD.samefile(path)):
-        if FIELD.exists():
-            shutil.copy(FIELD, FIELD.with_name("field.toml.before")).chmod(SECRET)
-        replace(FIELD, path.read_text(), SECRET)
-    return field
+    is_asked = asks(args)
+    if is_asked:
+        ask(args.first_look)
+    field = Field.in_file(path)
+    hears = (is_asked or sys.stdin.isatty()) and not args.renew and not args.prices_as_shipped
+    if hears and are_prices_open():
+        ask_prices()
+    clerk = args.clerk or (ask_name() if is_asked and not has_accounts() else "")
+    is_first_look = first_look.is_needed(field) and bool(args.first_look or is_asked and wants_first_look())
+    return Wanted(field, path, clerk, is_first_look)
 
 
 def set_up() -> int:
@@ -437,26 +454,39 @@ def set_up() -> int:
         print("portal-setup: it needs root", file=sys.stderr)
         return 1
     os.umask(0o022)
-    field = prepare(args)
-    if field is None:
+    try:
+        wanted = hear(args)
+    except (BadSettings, OSError) as fault:
+        print(f"portal-setup: {fault_of_settings(args.settings or FIELD, fault)}", file=sys.stderr)
         return 1
-    keeper = write_files(field, args)
+    field = wanted.field
+    if not args.renew and not may_begin(wanted, args.prices_as_shipped):
+        return 1
+    password = clerk_account.new_password(ETC, wanted.clerk, args.role or "") if wanted.clerk else None
+    keeper = write_files(wanted, args)
     reason = refusal()
     if reason:
         keeper.put_back()
         print(f"portal-setup: {reason}\nportal-setup: nothing was changed; mend that, and run it again",
               file=sys.stderr)
         return 1
+    if password:
+        password.put(ETC, lambda path, text: replace(path, text, accounts.MODE, accounts.GROUP))
+    return open_venue(field, keeper, args.renew)
+
+
+def open_venue(field: Field, keeper: Keeper, is_renewed: bool) -> int:
+    """Has everything run with the files that were made; 0 where all runs, 1 where something is wrong."""
     put_hand_made_aside()
     rules = f"portal-rules@{run('systemd-escape', '--', field.lan).stdout.strip()}.service"
     ctl("daemon-reload")
     run("sysctl", "-q", "-p", "/etc/sysctl.d/60-portal.conf", check=False)     # limits by the network's size
-    if args.renew:
+    if is_renewed:
         renew(rules, keeper)
     else:
         start(rules)
-    serve_pages(args.renew, keeper)
-    return 0 if args.renew else report(field, rules)
+    serve_pages(is_renewed, keeper)
+    return 0 if is_renewed else report(field, rules)
 
 
 def main() -> int:

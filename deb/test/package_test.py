@@ -385,13 +385,16 @@ def test_changelog_of_two_versions(tmp_path: pathlib.Path) -> None:
 
 # Set-up's questions
 
-def asked(sample: str, answers: list[str]) -> tuple[str, list[str]]:
+NAMES = ["wifi.venue.lan", "counter.venue.lan"]
+
+
+def asked(sample: str, answers: list[str], **more: bool) -> tuple[str, list[str]]:
     """What questions make of a sample of field.toml, and what they said; every answer is to be asked for."""
     said: list[str] = []
     here = questions.Here.__new__(questions.Here)
     here.devices, here.way_out = {name: {} for name in ("lan0", "wan0", "ctr0")}, "wan0"
     given = iter(answers)
-    text = questions.ask_all(sample, lambda _: None, tomllib.loads(sample), here, said.append, lambda _: next(given))
+    text = questions.ask_all(sample, lambda _: None, tomllib.loads(sample), here, said.append, lambda _: next(given), **more)
     return text, [*said, *(f"not asked for: {answer}" for answer in given)]
 
 
@@ -412,23 +415,38 @@ def test_leases_for_a_network() -> None:
 
 def test_questions_of_field() -> None:
     sample = (TOP / "field/settings/field.toml").read_text()
-    text, said = asked(sample, ["Café", "Europe/Berln", "Europe/Berlin", "clerk", *[""] * 9])
-    assert (tomllib.loads(text)["zone"] == "CET-1CEST,M3.5.0,M10.5.0/3"
+    text, said = asked(sample, ["Café", "Europe/Berln", "Europe/Berlin", "clerk", *[""] * 4, *NAMES, *[""] * 3])
+    assert (tomllib.loads(text)["zone"] == "CET-1CEST,M3.5.0,M10.5.0/3" and tomllib.loads(text)["currency"] == "EUR"
             and "# the venue's time zone" in text and len(said) == 2
             and "no time zone of this name" in said[1]), (
         "a time zone is answered by its name, and its rule is written; a name that there is not is "
-        "asked for again")
-    text, said = asked(re.sub('house = "[^"]*"', 'house = ""', sample), ["", "", "Café", *[""] * 11])
+        "asked for again; the currency is that of its country")
+    text, said = asked(re.sub('house = "[^"]*"', 'house = ""', sample), ["", "", "Café", *[""] * 6, *NAMES, *[""] * 3])
     assert tomllib.loads(text)["house"] == "Café" and said[1:] == ["  no: it cannot be empty"] * 2, (
         "an empty answer that has no default is asked for again")
-    text, said = asked(sample, ["Café", *[""] * 8, "de", "EUR", "Café Guests", "correct horse"])
+    text, said = asked(sample, ["Café", *[""] * 6, *NAMES, "de", "EUR", "Café Guests", "correct horse"])
     lines = tomllib.loads(text)
     assert ([lines[key] for key in ("counter_language", "currency", "wifi", "wifi_password")]
             == ["de", "EUR", "Café Guests", "correct horse"] and len(said) == 1), (
         f"the counter's language, the currency and what is printed of the Wi-Fi are asked for  [{said}]")
-    text, said = asked(sample.replace('currency = ""', 'currency = "EUR"'), ["Café", *[""] * 9, "-", "-"])
+    text, said = asked(sample.replace('currency = ""', 'currency = "EUR"'), ["Café", *[""] * 6, *NAMES, "", "-", "-"])
     assert (tomllib.loads(text)["currency"], len(said)) == ("", 1), (
         f"a hyphen leaves a line empty, and without a name no password is asked for  [{said}]")
+
+
+def test_names_that_nobody_can_have_a_certificate_for() -> None:
+    """Those of RFC 2606, also the sample's."""
+    sample = (TOP / "field/settings/field.toml").read_text()
+    words = ["Café", *[""] * 6]
+    text, said = asked(sample, [*words, "", "wifi.test", "wifi.example.com", NAMES[0], "", NAMES[1], "", "-", "-"])
+    lines = tomllib.loads(text)
+    no = [line for line in said if line.startswith("  no: ")]
+    assert ([lines["name"], lines["counter_name"]] == NAMES and len(no) == 4 and no[0] == no[3] == "  no: it cannot be empty"
+            and no[1] == "  no: 'wifi.test': nobody can have a certificate for it (RFC 2606); only to see how it works: "
+                         "portal-setup --first-look"), (
+        f"the sample's names are no answer, and a name of no owner is asked for again  [{said}]")
+    text, said = asked(sample, [*words, "", "", "", "-", "-"], takes_any_name=True)
+    assert tomllib.loads(text)["name"] == "wifi.example" and len(said) == 1, "with --first-look the sample's names are taken"
 
 
 def test_questions_of_prices() -> None:

@@ -207,7 +207,7 @@ class Copies(Case):
         return (desk.folder / "order").read_text().split()
 
     def test_the_service_is_frozen_and_goes_on_whatever_happens(self) -> None:
-        for cp, status in (('exec /bin/cp "$@"', 0), ("exit 1", 3)):
+        for cp, status in (('exec /bin/cp "$@"', 0), ("exit 1", 75)):
             with DeskProcess() as desk:
                 desk.load()
                 systemctl(desk.folder, "active")
@@ -266,7 +266,7 @@ class Copies(Case):
         with DeskProcess() as desk:
             systemctl(desk.folder, "inactive")
             done = self.run_it("portal-backup", desk.book, desk.folder / "copies", folder=desk.folder)
-            self.assertEqual((done.returncode, list((desk.folder / "copies").iterdir())), (3, []))
+            self.assertEqual((done.returncode, list((desk.folder / "copies").iterdir())), (75, []))
             self.assertIn("another process has", done.stderr)
 
     def test_the_newest_copies_are_kept(self) -> None:

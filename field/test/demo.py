@@ -34,6 +34,7 @@ SHIPPED = FIELD.parent / "dist/x86_64-linux"
 NAME, COUNTER = "wifi.localhost", "counter.localhost"       # browsers take every NAME.localhost for this machine
 PAGE = b"""<!DOCTYPE html><html lang="en"><head><meta charset="utf-8"><title>The outside</title></head>
 <body><h1>The outside</h1><p>You are through: this page is behind the gateway.</p></body></html>"""
+NAMESPACES = ("unshare", "--mount", "--pid", "--net", "--fork", "--kill-child=KILL", "--mount-proc")
 CLONE_NEWNET, PR_SET_PDEATHSIG = 0x40000000, 1
 libc = ctypes.CDLL(None, use_errno=True)
 
@@ -236,10 +237,25 @@ def unpack(folder: str) -> str:
     return str(path)
 
 
+def first_port(text: str) -> int:
+    if text.isdigit() and 1 <= int(text) <= 65533:
+        return int(text)
+    raise argparse.ArgumentTypeError(f"{text}: the first of three ports, from 1 to 65533")
+
+
+def can_make_namespaces() -> bool:
+    """Whether this machine lets root make them; says so where it does not, as in a container or in a plain chroot."""
+    tried = subprocess.run([*NAMESPACES, "true"], capture_output=True, text=True)
+    if tried.returncode != 0:
+        print(f"demo: no namespaces can be made here ({tried.stderr.strip()})\n    do: run it on the machine itself; or start the "
+              "container with --privileged, or with the capabilities SYS_ADMIN and NET_ADMIN", file=sys.stderr)
+    return tried.returncode == 0
+
+
 def read_words() -> argparse.Namespace:
     words = argparse.ArgumentParser("demo", description="A venue on one machine, in network namespaces. Needs root.")
     words.add_argument("--portal", help="the program, as a command line; else the shipped one")
-    words.add_argument("--port", type=int, default=8443, metavar="N", help="the first of three ports (8443)")
+    words.add_argument("--port", type=first_port, default=8443, metavar="N", help="the first of three ports (8443)")
     words.add_argument("--once", action="store_true", help="redeem a voucher, print how long it took, and end")
     words.add_argument("--inside", type=int, help=argparse.SUPPRESS)       # this machine's network, by its descriptor
     words.add_argument("--start", type=float, help=argparse.SUPPRESS)
@@ -254,13 +270,15 @@ def main() -> int:
     if os.geteuid() != 0:
         print("demo: it needs root: sudo", shlex.join([str(FIELD / "demo"), *sys.argv[1:]]), file=sys.stderr)
         return 1
+    if not can_make_namespaces():
+        return 1
     home = os.open("/proc/self/ns/net", os.O_RDONLY)
     os.set_inheritable(home, True)
     again = ["/usr/bin/python3", str(pathlib.Path(__file__).resolve()), *sys.argv[1:],
              "--inside", str(home), "--start", str(start)]
     shell = ("mount -t tmpfs tmpfs /run && mkdir -p -m 0755 /run/netns /run/lab && export TMPDIR=/run/lab "
              f"PATH=$PATH:/usr/sbin:/sbin && exec {shlex.join(again)}")
-    words = ["unshare", "--mount", "--pid", "--net", "--fork", "--kill-child=KILL", "--mount-proc", "sh", "-c", shell]
+    words = [*NAMESPACES, "sh", "-c", shell]
     job = subprocess.Popen(words, pass_fds=[home], preexec_fn=lambda: libc.prctl(PR_SET_PDEATHSIG, signal.SIGKILL))
     ended: list[int] = []
 

@@ -106,6 +106,11 @@ def answers() -> dict[str, str | tuple[int, str]]:
                        "python3-markdown-it 2.1.0-5 installed\n"}
 
 
+def as_root_reads(lines: str) -> str:
+    """What is printed, without the lines that an ordinary user reads beside it."""
+    return "".join(line for line in lines.splitlines(keepends=True) if not line.endswith("only root can see\n"))
+
+
 class FakeMachine(Machine):
     """`says`: the answers of commands; None: it is not installed. What it does not know is really run."""
 

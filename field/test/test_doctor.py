@@ -33,7 +33,7 @@ from portal_field.doctor.findings import Finding, Look, Machine, State, findings
 from portal_field.settings.maker import BEFORE
 from portal_field.settings.venue import Field
 
-GOOD, WARNING, WRONG, OVER = State.GOOD, State.WARNING, State.WRONG, State.PASSED_OVER
+GOOD, NOTE, WARNING, WRONG, OVER = State.GOOD, State.NOTE, State.WARNING, State.WRONG, State.PASSED_OVER
 
 
 class Case(unittest.TestCase):
@@ -496,8 +496,12 @@ class Running(Case):
                                 ("worker_processes 2;\n", "", "nginx takes 2048 connections of guests (1 workers, 2048 each)")):
             self.assertIn(old, NGINX)
             self.machine.says["nginx -T"] = NGINX.replace(old, new)
-            self.assertIn("worker_connections 4096;", self.only_fault(running.connections, WARNING, shown).do)
-        for processors, state in ((3, GOOD), (1, WARNING)):
+            self.assertIn("worker_connections 4096;", self.only_fault(running.connections, NOTE, shown).do)
+        self.machine.says["nginx -T"] = NGINX.replace("2048", "383")
+        self.only_fault(running.connections, WARNING, "nginx takes 766 connections of guests (2 workers, 383 each): few")
+        self.machine.says["nginx -T"] = NGINX.replace("2048", "384")
+        self.only_fault(running.connections, NOTE, "enough for a small venue")
+        for processors, state in ((3, GOOD), (1, NOTE)):
             self.machine.says["nginx -T"] = NGINX.replace("processes 2", "processes auto")
             with mock.patch("os.cpu_count", return_value=processors):
                 self.assertEqual([finding.state for finding in self.findings_by(running.connections)], [state])
@@ -536,9 +540,9 @@ class Running(Case):
         self.all_good(base.logo)
         name = "/etc/portal/logo.svg"
         self.machine.field_or_none = Field.read(SAMPLE.replace('logo = ""', f'logo = "{name}"'))
-        self.only_fault(base.logo, WARNING, "there is no /etc/portal/logo.svg")
+        self.only_fault(base.logo, WARNING, "logo = '/etc/portal/logo.svg': there is no such file")
         self.machine.put(name, "<svg/>", mode=0o640)
-        self.only_fault(base.logo, WARNING, "cannot read /etc/portal/logo.svg")
+        self.only_fault(base.logo, WARNING, "logo = '/etc/portal/logo.svg': the counter's page cannot read it")
         self.machine.put(name, "<svg/>", mode=0o644)
         self.all_good(base.logo)
 
@@ -682,14 +686,14 @@ class Command(Case):
         is_wrong = any(row["state"] == "wrong" for row in shown["findings"])
         self.assertEqual((shown["state"], done.returncode), ("wrong", 1) if is_wrong else ("good", 0))
         for row in shown["findings"]:
-            self.assertEqual(set(row), {"check", "state", "what", "do"})
-            self.assertIn(row["state"], ("good", "warning", "wrong", "passed over"))
+            self.assertEqual(set(row), {"check", "state", "what", "do", "follows"})
+            self.assertIn(row["state"], ("good", "note", "warning", "wrong", "passed over"))
         rows: list[dict[str, str]] = shown["findings"]
         return rows
 
     def test_each_check_has_its_name(self) -> None:
         names = list(dict.fromkeys(row["check"] for row in self.findings()))
-        self.assertEqual(names, ["settings", "devices", "addresses", "limits", "certificate", "zone", "clock", "ports",
+        self.assertEqual(names, ["settings", "set up", "devices", "addresses", "limits", "certificate", "zone", "clock", "ports",
                                  "others", "rules", "services", "connections", "server", "clerks", "plans", "logo", "backup",
                                  "disk", "versions"])
 
@@ -705,7 +709,7 @@ class Command(Case):
         done = self.ask()
         self.assertEqual(done.returncode, 1)
         self.assertRegex(done.stdout, r"(?m)^WRONG +clock: it is not synchronised.*\n +do: ")
-        self.assertRegex(done.stdout, r"[0-9]+ wrong, [0-9]+ warnings, [0-9]+ good, [0-9]+ passed over\n\Z")
+        self.assertRegex(done.stdout, r"[0-9]+ wrong, [0-9]+ warnings, [0-9]+ good, [0-9]+ passed over; [0-9]+ follow\n\Z")
         self.assertNotRegex(done.stdout, r"(?m)^good ")
         self.assertRegex(self.ask("--all").stdout, r"(?m)^good +devices: lan: lan0 is up$")
 
@@ -730,7 +734,7 @@ class Command(Case):
         self.assertIn(("clock", "good"), found)         # what needs no settings is looked at all the same
 
     def test_settings_that_root_alone_can_read_are_no_fault(self) -> None:
-        with mock.patch.object(pathlib.Path, "read_text", side_effect=PermissionError(13, "Permission denied")):
+        with mock.patch.object(pathlib.Path, "read_bytes", side_effect=PermissionError(13, "Permission denied")):
             found = list(doctor.settings(self.machine, self.field))
         self.assertEqual([(finding.state, finding.what) for finding in found], [(OVER, f"{self.field} only root can read")])
         self.machine.field_or_none, self.machine.says["timedatectl "] = None, "no\n"
@@ -752,7 +756,7 @@ class Command(Case):
         os.utime(self.field, (time.time() + 60,) * 2)
         self.assertIn(("settings", "warning"), {(row["check"], row["state"]) for row in self.findings()})
         self.machine.path("/etc/portal/gateway.toml").unlink()
-        self.assertIn(("settings", "wrong"), {(row["check"], row["state"]) for row in self.findings()})
+        self.assertIn(("set up", "wrong"), {(row["check"], row["state"]) for row in self.findings()})
 
     def test_one_check_that_breaks_does_not_stop_the_others(self) -> None:
         self.machine.says["ip -j address show"] = "no JSON"

@@ -150,9 +150,9 @@ class Finding(AtCounter):
     def test_nothing_is_sold_by_the_first_characters(self) -> None:
         code, = self.desk.issue_codes("hour", "b1")
         other, = self.desk.issue_codes("hour", "b2")
-        self.assertIn("No such code can exist", self.ask("/sell", code=code[:14], request="s1")[1])
-        self.assertIn("Nothing was sold.", self.ask("/sell-several", codes=code[:14], request="s2")[1])
-        place = self.place_of("/sell", code=other, next=code[:14], request="s3")
+        self.assertIn("No such code can exist", self.ask("/sell", code=code[:13], request="s1")[1])
+        self.assertIn("Nothing was sold.", self.ask("/sell-several", codes=code[:13], request="s2")[1])
+        place = self.place_of("/sell", code=other, next=code[:13], request="s3")
         self.assertIn("No such code can exist", self.ask(place)[1])
         self.assertEqual([self.desk.voucher(each)["sold"] for each in (code, other)], [None, None])
 

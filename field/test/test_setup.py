@@ -19,7 +19,7 @@ from typing import Any
 from unittest import mock
 
 from desk_process import FIELD, PORTAL
-from fake_machine import LISTENERS, NETWORKS, Certificates, FakeMachine, as_ip_prints
+from fake_machine import LISTENERS, NETWORKS, Certificates, FakeMachine, as_ip_prints, as_root_reads
 from needs import NAMESPACES, ROOT, needs
 
 from portal_field.doctor import running
@@ -28,6 +28,7 @@ from portal_field.settings.samples import is_sample
 from portal_field.settings.venue import BadSettings, Field
 
 SAMPLE, PLANS = ((FIELD / f"settings/{name}.toml").read_text() for name in ("field", "plans"))
+OWN_NAMES = SAMPLE.replace("wifi.example", "wifi.venue.lan").replace("counter.example", "counter.venue.lan")
 LATER = ("desk_port", "poll_seconds", "grace_seconds", "quiet_seconds", "time_quiet_seconds",
          "without_browser", "clock", "on_failure", "currency", "wifi", "wifi_password", "logo", "voucher_size",
          "voucher_barcode", "daily_report", "owner_contact", "counter_language", "voucher_languages", "payments",
@@ -147,20 +148,20 @@ class Looked(unittest.TestCase):
     def setUp(self) -> None:
         self.folder = pathlib.Path(self.enterContext(tempfile.TemporaryDirectory()))
 
-    def run_setup(self, text: str, *more: object, path: str = os.environ["PATH"]) -> tuple[int, str]:
+    def run_setup(self, text: str, *more: object, path: str = os.environ["PATH"], typed: str = "") -> tuple[int, str]:
         settings, root = self.folder / "field.toml", self.folder / "root"
         settings.write_text(text)
         words = [sys.executable, FIELD / "setup", "--root", root, *more, settings]
         env = {**os.environ, "PATH": path, "SSL_CERT_FILE": str(self.folder / "ca.pem")}
-        done = subprocess.run([str(word) for word in words], capture_output=True, text=True, env=env)
+        done = subprocess.run([str(word) for word in words], input=typed, capture_output=True, text=True, env=env)
+        self.printed = done.stdout
         self.assertEqual(root.exists(), done.returncode == 0, "files are made where nothing is wrong alone")
         shutil.rmtree(root, ignore_errors=True)
-        lines = done.stderr.splitlines(keepends=True)
-        return done.returncode, "".join(line for line in lines if not line.endswith("only root can see\n"))     # whoever runs this
+        return done.returncode, as_root_reads(done.stderr)
 
-    def wrong(self, machine: FakeMachine) -> str:
+    def wrong(self, machine: FakeMachine, text: str = SAMPLE) -> str:
         """The one thing that set-up finds wrong and stops at, in its first line."""
-        status, errors = self.run_setup(SAMPLE, "--machine", machine.root, "--portal", "/bin/true",
+        status, errors = self.run_setup(text, "--machine", machine.root, "--portal", "/bin/true",
                                         path=machine.on_path(self.folder))
         lines = errors.splitlines()
         self.assertEqual((status, len(lines)), (1, 2), errors)
@@ -190,8 +191,53 @@ class Looked(unittest.TestCase):
         for name, key in (("cert", "cert"), ("key", "key")):
             path = machine.path(f"/etc/portal/tls/{name}.pem")
             path.rename(self.folder / "gone")
-            self.assertEqual(self.wrong(machine), f"{key} = '/etc/portal/tls/{name}.pem': there is no such file")
+            self.assertEqual(self.wrong(machine, OWN_NAMES), f"{key} = '/etc/portal/tls/{name}.pem': there is no such file")
             (self.folder / "gone").rename(path)
+
+    @needs("openssl")
+    def test_names_that_nobody_can_have_a_certificate_for(self) -> None:
+        """Those of RFC 2606, as the sample has them: the certificate that is missing follows. Who has one goes on."""
+        machine = self.good_machine()
+        words = ("--machine", machine.root, "--portal", "/bin/true")
+        self.assertEqual(self.run_setup(SAMPLE, *words, path=machine.on_path(self.folder)), (0, ""))
+        shutil.rmtree(machine.path("/etc/portal/tls"))
+        for name in ("wifi.example", "a.example.com", "wifi.test", "a.b.invalid", "x.localhost"):
+            text = OWN_NAMES.replace('name = "wifi.venue.lan"', f'name = "{name}"', 1)
+            status, errors = self.run_setup(text, *words, path=machine.on_path(self.folder))
+            lines = errors.removeprefix(f"setup: {self.folder}/field.toml: ").splitlines()
+            self.assertEqual((status, lines[0]), (1, f"name = '{name}': nobody can have a certificate for it (RFC 2606)"))
+            self.assertIn("--first-look", lines[1])
+            self.assertEqual(lines[2:], ["    2 more follow from this: portal-doctor --all shows them"])
+
+    @needs("openssl")
+    def test_a_logo_that_is_not_there(self) -> None:
+        machine = self.good_machine()
+        text = SAMPLE.replace('logo = ""', 'logo = "/etc/portal/logo.svg"')
+        self.assertEqual(self.wrong(machine, text), "logo = '/etc/portal/logo.svg': there is no such file")
+        machine.put("/etc/portal/logo.svg", "<svg/>", mode=0o600)
+        self.assertEqual(self.wrong(machine, text), "logo = '/etc/portal/logo.svg': the counter's page cannot read it")
+
+    @needs("openssl")
+    def test_what_follows_is_counted(self) -> None:
+        """The address of a device that is not there."""
+        machine = self.good_machine()
+        machine.says["ip -j address show"] = as_ip_prints({name: row for name, row in NETWORKS.items() if name != "lan0"})
+        status, errors = self.run_setup(SAMPLE, "--machine", machine.root, "--portal", "/bin/true", path=machine.on_path(self.folder))
+        self.assertEqual((status, errors.splitlines()[2:]), (1, ["    1 more follows from this: portal-doctor --all shows it"]))
+
+    @needs("openssl")
+    def test_a_clerk_is_made_last(self) -> None:
+        """A check that fails, or a password that is refused: nothing is changed, and nothing more is said."""
+        machine = self.good_machine()
+        words = ("--machine", machine.root, "--portal", "/bin/true", "--clerk", "ann")
+        good, done = "a-long-password\n", []
+        for clock, password in (("no\n", good), ("yes\n", "short\n"), ("yes\n", good)):
+            machine.says["timedatectl "] = clock
+            done.append(self.run_setup(SAMPLE, *words, path=machine.on_path(self.folder), typed=password))
+            self.assertEqual("ann is a manager" in self.printed, done[-1][0] == 0)
+        self.assertEqual([status for status, _ in done], [1, 1, 0])
+        self.assertEqual([len(errors.splitlines()) for _, errors in done], [2, 1, 0])
+        self.assertIn("at least 10 characters", done[1][1])
 
     @needs("openssl")
     def test_what_else_stops_it(self) -> None:

@@ -230,6 +230,9 @@ class Words(SmallSteps):
         for words in (("--anwe",), ("first", "last"), ("--changed", "last"), ("whole", "field")):
             self.call(*words)
             self.assertEqual((self.status, self.said[-1], self.ran()), (2, "usage: ./test", []))
+            self.assertEqual(len(self.said), 2)
+        self.call("--anwe")
+        self.assertIn("unknown option: --anwe (did you mean --anew?)", self.said[0])
         self.call("--help")
         self.assertEqual((self.status, self.said), (0, ["usage: ./test"]))
 

@@ -30,6 +30,8 @@ class Reading(SmallSteps):
         self.assertEqual([it.name for it in table.named("each")], ["each:test_other", "each:test_page"])
         self.assertEqual([it.name for it in table.named("test_page")], ["each:test_page"])
         self.assertRaisesRegex(BadTable, "no part is called nothing; there are: quick, each, last", table.named, "nothing")
+        for word, near in (("lsat", "last"), ("test_pag", "test_page"), ("each:test_oter", "each:test_other")):
+            self.assertRaisesRegex(BadTable, rf"no part is called {word} \(did you mean {near}\?\); there are: quick", table.named, word)
 
     def test_what_a_table_may_not_say(self) -> None:
         for old, new, words in (

@@ -3,6 +3,7 @@
 from __future__ import annotations
 
 import dataclasses
+import difflib
 import hashlib
 import re
 import shlex
@@ -212,10 +213,16 @@ class Table:
         found = found or [it for it in self.steps if it.name.partition(":")[2] == name]
         if not found:
             parts = dict.fromkeys(it.part for it in self.steps)
-            raise BadTable(f"no part is called {name}; there are: {', '.join(parts)}")
+            near = difflib.get_close_matches(name, [*parts, *self.short_names()], 1)
+            maybe = f" (did you mean {near[0]}?)" if near else ""
+            raise BadTable(f"no part is called {name}{maybe}; there are: {', '.join(parts)}")
         if len({it.part for it in found}) > 1:
             raise BadTable(f"{name} may be {' or '.join(it.name for it in found)}")
         return found
+
+    def short_names(self) -> list[str]:
+        """The names of steps, with their part and without."""
+        return [name for it in self.steps for name in (it.name, it.name.partition(":")[2]) if name]
 
     def changed(self, paths: set[str]) -> list[Step]:
         """The steps that read one of these files, or run the program that they make."""

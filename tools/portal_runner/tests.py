@@ -2,10 +2,12 @@
 
 from __future__ import annotations
 
+import difflib
 import subprocess
 import sys
 import threading
 from pathlib import Path
+from typing import NoReturn
 
 from . import processes
 from .budgets import write_budgets
@@ -22,6 +24,13 @@ from .steps import GROUPS, BadTable, Table
 TOP = Path(__file__).resolve().parent.parent.parent
 
 
+def refuse(why: str, usage: str) -> NoReturn:
+    """Says what is wrong with the command line, and the first lines of the usage."""
+    first = usage.partition("\n\n")[0].rstrip()
+    print(f"test: {why}; ./test --help says more", first, sep="\n", file=sys.stderr)
+    raise SystemExit(2)
+
+
 def read_options(words: list[str], usage: str) -> Options:
     """What was asked for; it ends the program where that is wrong, or is --help."""
     options = {"--anew": "is_anew", "--budgets": "has_budgets"}
@@ -36,21 +45,14 @@ def read_options(words: list[str], usage: str) -> Options:
         elif word == "--changed" or word.startswith("--changed="):
             given["base"] = word.partition("=")[2] or "HEAD"
         elif word.startswith("-"):
-            print(f"test: unknown option: {word}", usage, sep="\n", end="", file=sys.stderr)
-            raise SystemExit(2)
+            near = difflib.get_close_matches(word, [*options, "--changed", "--help"], 1)
+            refuse(f"unknown option: {word}{f' (did you mean {near[0]}?)' if near else ''}", usage)
         else:
             names.append(word)
     if names == ["whole"]:
         names, given["is_whole"] = ["all"], True
     if "base" in given and names or len(names) > 1 and set(names) & {*GROUPS, "whole"}:
-        print(
-            "test: one of first, field, all, whole and --changed, or names",
-            usage,
-            sep="\n",
-            end="",
-            file=sys.stderr,
-        )
-        raise SystemExit(2)
+        refuse("one of first, field, all, whole and --changed, or names", usage)
     return Options(words=tuple(names), **given)  # type: ignore[arg-type]
 
 

@@ -32,6 +32,15 @@ def test_nothing_runs_before_it_is_set_up(installed: None) -> None:
         f"nothing of it runs, and nothing is forwarded, before it is set up  [{states}]")
 
 
+def test_one_cause(installed: None) -> None:
+    done = sh("portal-doctor")
+    lines = [line for line in done.stdout.splitlines() if line.startswith(("WRONG", "warning"))]
+    print(f"note the doctor before set-up: {output(done, 400)}")
+    assert (done.returncode == 1 and len(lines) == 1 and "set up: set-up has not run" in lines[0]
+            and "more follow from this" in done.stdout), (
+        f"before it is set up the doctor names that alone, and counts what follows  [{output(done, 600)}]")
+
+
 def test_what_is_missing(installed: None) -> None:
     done = sh("portal-setup")
     assert done.returncode == 1 and "clerk" in done.stderr and "cert" in done.stderr, (

@@ -48,7 +48,7 @@ ANSWERS = (
     ("language of the counter's page", ""), ("currency of the prices", ""), ("Wi-Fi's name", "Café"), ("Wi-Fi's password", ""),
     ("price of hour", "2,5"), ("price of day", "nothing"), ("price of day", ""), ("price of gigabyte", "-"),
     ("clerk's name", ""), ("clerk's name", "a:b"), ("clerk's name", "clerk"), ("Password of", "too-short"),
-    ("Password of", PASSWORD), ("Once more", PASSWORD), ("first look", ""))
+    ("Password of", PASSWORD), ("Once more", PASSWORD))
 
 
 def site() -> bool:
@@ -189,7 +189,7 @@ def questions(open_shop: str) -> Questions:
     FIELD.write_bytes(pathlib.Path("/usr/share/portal/field/settings/field.toml").read_bytes())
     for name in ("clerks.toml", "tls/cert.pem", "tls/key.pem"):
         pathlib.Path("/etc/portal", name).unlink(missing_ok=True)
-    status, text = on_a_terminal(["portal-setup"], ANSWERS)
+    status, text = on_a_terminal(["portal-setup", "--first-look"], ANSWERS)     # which takes the sample's names
     AUTHORITY.append(pathlib.Path("/etc/portal/tls/cert.pem"))
     return Questions(open_shop, status, text)
 

@@ -33,12 +33,13 @@ from collections.abc import Iterator
 from portal_field.backup import venue_copy
 from portal_field.backup.copies import (
     UNIT, BadCopy, InUse, check_by_portal, copy_both, copy_open, fold, look, nobody_has_it_open,
-    say_step, server_state, sum_of, to_disk)
+    say_step, server_state, sum_of, to_disk, words_of)
 
 # Waits until its standard input ends, as it does however the backup ends; then the server goes on.
 GUARD = "trap '' HUP INT TERM; read -r _; exec %s"
 
 
+AGAIN = 75                              # of sysexits.h, TEMPFAIL: the next try may go well
 JOURNAL = "journal-"                    # begins the names of copies of the counter's journal
 TOP_OF_SUBVOLUME = 256                  # the inode's number
 # capabilities: to make a snapshot of another user's folder, and to delete it
@@ -153,7 +154,8 @@ def copy_journal(journal: pathlib.Path | None, part: pathlib.Path, goal: pathlib
         look(one)
         put(one, goal)
     except (BadCopy, OSError) as fault:
-        print(f"portal-backup: the counter's journal, {journal}, is not copied: {fault}", file=sys.stderr)
+        print(f"portal-backup: the counter's journal, {journal}, is not copied: {words_of(fault)}",
+              file=sys.stderr)
         return 1
     return 0
 
@@ -174,7 +176,7 @@ def copy_venue(args: argparse.Namespace, database: pathlib.Path) -> int:
                 one = venue_copy.seal(one, settings.key)
             put(one, folder / one.name)
     except (BadCopy, OSError, subprocess.SubprocessError) as fault:
-        print(f"portal-backup: the whole venue is not copied to {folder}: {fault}", file=sys.stderr)
+        print(f"portal-backup: the whole venue is not copied to {folder}: {words_of(fault)}", file=sys.stderr)
         return 1
     venue_copy.drop_old(folder)
     return 0
@@ -252,8 +254,8 @@ def main() -> int:
         print("portal-backup: the copy is not kept:", fault, file=sys.stderr)
         return 1
     except (CannotHold, InUse, OSError, subprocess.SubprocessError) as fault:
-        print("portal-backup:", fault, file=sys.stderr)
-        return 3
+        print("portal-backup:", words_of(fault), file=sys.stderr)
+        return AGAIN
     if args.keep > 0:
         drop_old(args.folder, args.keep)
     print(goal)

@@ -16,6 +16,8 @@ import urllib.parse
 from collections.abc import Iterator
 
 UNIT = "portal.service"
+MIB = 1 << 20
+MAKE_ROOM = "make room where it is short (`du -xh --max-depth=2 / | sort -h | tail`), then run it again"
 ENDS = ("", "-wal")             # the database and its log belong together
 SHARED, SIZE = 0x40000002, 510  # the bytes of a database file that SQLite locks
 
@@ -26,6 +28,21 @@ class BadCopy(Exception):
 
 class InUse(Exception):
     """The server runs, or another process has the database open."""
+
+
+class NotCopied(OSError):
+    """A file is not copied, why, and what to do."""
+
+    def __init__(self, why: str, do: str) -> None:
+        super().__init__(f"{why}\n    do: {do}")
+
+
+def words_of(fault: Exception) -> str:
+    """What is said of a fault: of one of the system's its file, and why."""
+    if isinstance(fault, PermissionError) and os.geteuid() != 0:
+        return f"{fault.filename}: only root can read it\n    do: run it as root"
+    is_of_a_file = isinstance(fault, OSError) and fault.filename and fault.strerror
+    return f"{fault.filename}: {fault.strerror}" if is_of_a_file else str(fault)  # type: ignore[attr-defined]
 
 
 def say_step(words: str) -> None:
@@ -62,8 +79,20 @@ def copy_both(database: pathlib.Path, goal: pathlib.Path) -> None:
         raise BadCopy(f"there is no file {database}")
     for end in ENDS:
         if os.path.exists(f"{database}{end}"):
-            words = ["cp", "--reflink=auto", "--preserve=timestamps", f"{database}{end}", f"{goal}{end}"]
-            subprocess.run(words, check=True, timeout=120)
+            copy_file(f"{database}{end}", f"{goal}{end}")
+
+
+def copy_file(source: str, goal: str) -> None:
+    """Copies a file, with blocks in common where the file system can. NotCopied: in one sentence why not."""
+    words = ["cp", "--reflink=auto", "--preserve=timestamps", source, goal]
+    env = {**os.environ, "LC_ALL": "C"}
+    done = subprocess.run(words, capture_output=True, text=True, timeout=120, env=env)
+    if done.returncode != 0:
+        why = done.stderr.strip().rpartition(": ")[2] or f"cp ended with status {done.returncode}"
+        folder = next(path for path in pathlib.Path(goal).parents if not path.name.startswith("."))
+        size, free = (number / MIB for number in (os.path.getsize(source), shutil.disk_usage(folder).free))
+        raise NotCopied(f"{source} ({size:.1f} MiB) is not copied to {folder} ({free:.1f} MiB are free): "
+                        f"{why}", MAKE_ROOM)
 
 
 def fold(path: pathlib.Path) -> None:

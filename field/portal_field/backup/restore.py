@@ -33,13 +33,15 @@ from collections.abc import Iterator
 
 from portal_field.backup.copies import (
     UNIT, BadCopy, InUse, ask_portal, check_by_portal, copy_both, fold, head_of, look, nobody_has_it_open,
-    server_state, sum_of, to_disk)
+    server_state, sum_of, to_disk, words_of)
 from portal_field.backup.undone_entries import undone_entries, write_list
 from portal_field.backup.venue_copy import BEGIN, copies_in
 from portal_field.backup.venue_restore import check, restore_venue, unpack
+from portal_field.lib.nearest import with_nearest
 from portal_field.venues.places import Places
 
 COPIES, COPIES_OF_VENUE = "/var/backups/portal", "/var/backups/portal-whole"
+ANOTHER = f"take another one: `ls {COPIES} {COPIES_OF_VENUE}`"
 FLUSH = "flush set inet portal alive; flush set inet portal up; flush set netdev portal down"
 
 
@@ -181,12 +183,27 @@ def become_venue(args: argparse.Namespace) -> None:
 
 
 def newest(folder: pathlib.Path, venue: bool) -> pathlib.Path:
-    """The newest copy of a folder, of the database or of the whole venue. BadCopy: there is none."""
+    """The newest copy of a folder, of the database or of the whole venue. BadCopy: there is none. OSError:
+    the folder cannot be read."""
+    os.scandir(folder).close()      # a glob finds nothing where it may not look
     copies = copies_in(folder) if venue else [path for path in sorted(folder.glob("[0-9]*Z*"))
                                               if path.suffix != ".sha256"]
     if not copies:
-        raise BadCopy(f"there is none in {folder}")
+        raise BadCopy(f"there is none in {folder}\n    do: `systemctl start portal-backup`, which makes one")
     return copies[-1]
+
+
+def check_places(args: argparse.Namespace) -> None:
+    """BadCopy: there is no such copy. InUse: there is no folder for the database. OSError: this user may not
+    look."""
+    file, folder = args.file, args.database.parent
+    if not file.exists():
+        names = os.listdir(file.parent) if file.parent.is_dir() else []
+        near = with_nearest(file.name, (name for name in names if not name.endswith(".sha256")))
+        raise BadCopy(f"there is no file {file.parent / near}")
+    if not args.drill and not folder.is_dir():
+        raise InUse(f"there is no folder {folder} for the database: no venue is set up here\n    do: "
+                    "`portal-setup` first; or `portal-restore --whole` with a copy of the whole venue")
 
 
 def of_venue(args: argparse.Namespace) -> None:
@@ -226,14 +243,16 @@ def main() -> int:
         whole = args.key is not None
         folder = args.folder or pathlib.Path(COPIES_OF_VENUE if whole else COPIES)
         args.file = args.file or newest(folder, whole)
+        check_places(args)
         if args.drill:
             drill(args)
         else:
             become_venue(args) if args.whole else restore(args)
     except BadCopy as fault:
-        print(f"portal-restore: the copy is not used: {fault}", file=sys.stderr)
+        do = "" if "\n    do: " in str(fault) else f"\n    do: {ANOTHER}"
+        print(f"portal-restore: the copy is not used: {fault}{do}", file=sys.stderr)
         return 1
     except (InUse, OSError, LookupError, subprocess.SubprocessError) as fault:
-        print("portal-restore:", fault, file=sys.stderr)
+        print("portal-restore:", words_of(fault), file=sys.stderr)
         return 1
     return 0

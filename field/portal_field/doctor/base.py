@@ -17,7 +17,8 @@ from collections.abc import Iterator
 from portal_field import KIT
 from portal_field.backup.copies import sum_of
 from portal_field.backup.venue_copy import copies_in
-from portal_field.doctor.findings import CannotTell, Finding, Machine, State, good, warning, wrong
+from portal_field.doctor.findings import (
+    WITHOUT_SETTINGS, CannotTell, Finding, Machine, good, passed_over, warning, wrong)
 from portal_field.server.accepted_steps import FILE, MOST, read_record
 from portal_field.server.right_time import Unreadable, last_moment
 from portal_field.settings.venue import Field, toml_lines
@@ -25,6 +26,7 @@ from portal_field.settings.venue import Field, toml_lines
 DAY, MIB = 86400, 1 << 20
 CLOCK_SLACK = 60                # seconds
 OLD_COPY = 36 * 3600            # the timer makes one each night
+NIGHTLY = "nightly copies"      # what a finding is about that has no copy of last night
 LARGE = 256 * MIB               # a database that is not copied to be looked at
 OLDEST_KERNEL = (5, 16)         # the first with nftables at a device's egress
 # which changes nothing
@@ -85,9 +87,8 @@ def clock(machine: Machine) -> Iterator[Finding]:
     if output == "yes":
         yield good(f"a time service keeps it: {now}")
     elif not machine.field_or_none:
-        yield Finding(State.PASSED_OVER,
-                      f"no time service keeps it: {now}. Whether one must is in the settings, which "
-                      f"{machine.unread}")
+        yield passed_over(f"no time service keeps it: {now}. Whether one must is in the settings, which "
+                          f"{machine.unread}", WITHOUT_SETTINGS)
     elif believed == "clerk":
         yield warning(f"no time service keeps it: {now}",
                       "compare the time and the year with another clock; a clerk "
@@ -126,9 +127,8 @@ def against_the_database(machine: Machine) -> Iterator[Finding]:
             raise CannotTell("the database is too large to look at its last time beside the server")
         last = last_moment(path)
     except (Unreadable, OSError):
-        yield Finding(State.PASSED_OVER,
-                      "the database's last time cannot be read: only root can, and not while it is "
-                      "being written")
+        yield passed_over("the database's last time cannot be read: only root can, and not while it is "
+                          "being written")
         return
     if last and last > machine.now + CLOCK_SLACK:
         yield wrong(f"the last command in the database is of {moment(last)}, which is later than now: until "
@@ -177,12 +177,12 @@ def backup(machine: Machine) -> Iterator[Finding]:
     make = "`systemctl start portal-backup`, and `journalctl -u portal-backup` where that fails"
     if not copies:
         level = warning if is_new(machine) else wrong
-        yield level(f"there is no copy of the database in {machine.COPIES}", make)
+        yield level(f"there is no copy of the database in {machine.COPIES}", make, NIGHTLY)
         return
     newest = copies[-1]
     age = int(machine.now - newest.stat().st_mtime)
     if age > OLD_COPY:
-        yield wrong(f"the last copy, {newest.name}, is {age // 3600} hours old", make)
+        yield wrong(f"the last copy, {newest.name}, is {age // 3600} hours old", make, NIGHTLY)
     else:
         yield good(f"the last copy, {newest.name}, is {max(age, 0) // 3600} hours old")
     yield from sums(newest, make)
@@ -197,7 +197,8 @@ def venue_copies(machine: Machine, make: str) -> Iterator[Finding]:
         return
     age = int(machine.now - copies[-1].stat().st_mtime)
     if age > OLD_COPY:
-        yield wrong(f"the last copy of the whole venue, {copies[-1].name}, is {age // 3600} hours old", make)
+        yield wrong(f"the last copy of the whole venue, {copies[-1].name}, is {age // 3600} hours old", make,
+                    NIGHTLY)
     yield from sums(copies[-1], make)
 
 
@@ -220,16 +221,17 @@ def sums(copy: pathlib.Path, make: str) -> Iterator[Finding]:
 
 
 def logo(machine: Machine) -> Iterator[Finding]:
-    """Whether the counter's page can read the vouchers' logo. Without it vouchers are printed as before: a
-    warning."""
-    name = machine.field.logo
+    """Whether the counter's page can read the vouchers' logo. Without it a venue that runs prints vouchers as
+    before: a warning."""
+    name, level = machine.field.logo, warning if machine.is_installed else wrong
     path = machine.path(name) if name else None
     if path is None:
         yield good("vouchers have no logo")
     elif not path.is_file():
-        yield warning(f"logo: there is no {name}", "put the file there, or empty the line in field.toml")
+        yield level(f"logo = {name!r}: there is no such file",
+                    "put it there, or empty the line in field.toml")
     elif not path.stat().st_mode & 0o004:
-        yield warning(f"logo: the counter's page cannot read {name}", f"`chmod 0644 {name}`")
+        yield level(f"logo = {name!r}: the counter's page cannot read it", f"`chmod 0644 {name}`")
     else:
         yield good(f"vouchers have the logo {name}")
 
@@ -247,7 +249,7 @@ def versions(machine: Machine) -> Iterator[Finding]:
         if name in packages:
             yield good(f"{name} {packages[name]}")
         elif (KIT / part).exists():
-            yield wrong(f"{name} is not installed: {part} needs it", f"`apt install {name}`")
+            yield wrong(f"{name} is not installed: {part} needs it", f"`apt install {name}`", "libraries")
     yield good(f"Python {platform.python_version()}")
     yield kernel(machine)
     for words in (("nft", "--version"), ("nginx", "-v"), ("dnsmasq", "--version")):
@@ -259,7 +261,7 @@ def program(machine: Machine) -> Iterator[Finding]:
     try:
         output = machine.output_of(*shlex.split(machine.portal), "--version")
     except CannotTell as why:
-        yield wrong(str(why), "install the program again")
+        yield wrong(str(why), "install the program again", "program")
         return
     yield good(output.strip())
     yield from schema(machine, output)
@@ -279,7 +281,7 @@ def tool(machine: Machine, *words: str) -> Finding:
     try:
         done = machine.run(*words)
     except CannotTell as why:
-        return wrong(str(why), f"`apt install {words[0].replace('nft', 'nftables')}`")
+        return wrong(str(why), f"`apt install {words[0].replace('nft', 'nftables')}`", f"{words[0]} package")
     return good((done.stdout + done.stderr).strip().partition("\n")[0].partition("  Copyright")[0])
 
 

@@ -6,30 +6,45 @@ import re
 import ssl
 import time
 from collections.abc import Iterator
+from dataclasses import replace
 
 from portal_field.doctor.findings import CannotTell, Finding, Machine, good, warning, wrong
 
+FILES = "certificate files"     # without which nginx does not start
 FEW_DAYS = 21
 DAY = 86400
+# names of no owner, by their last or their last two labels: RFC 2606 sections 2 and 3
+RESERVED = re.compile(r"(^|\.)(example|test|invalid|localhost|example\.(com|net|org))$")
 RENEW = "renew it where it was issued, then `systemctl reload nginx`; what renews it should do both by itself"
 
 
+def no_certificate_for(name: str) -> str:
+    """Why nobody can have a certificate for a name, or nothing."""
+    return f"{name!r}: nobody can have a certificate for it (RFC 2606)" if RESERVED.search(name) else ""
+
+
 def certificate(machine: Machine) -> Iterator[Finding]:
-    """The certificate of both names: its files, key, names, days and authority."""
+    """The certificate of both names: its files, key, names, days and authority. Where there is none yet:
+    whether one can be had."""
     field = machine.field
     there = True
+    if not machine.is_installed and not machine.path(field.cert).exists():
+        for key in ("name", "counter_name"):
+            if why := no_certificate_for(getattr(field, key)):
+                yield wrong(f"{key} = {why}", "write a name of your own domain into field.toml; only to "
+                                              "see how it works: `portal-setup --first-look`", "name")
     for key, name in (("cert", field.cert), ("key", field.key)):
         path = machine.path(name)
         if not path.is_file():
             there = False
             yield wrong(f"{key} = {name!r}: there is no such file",
-                        "put it there, or change the line in field.toml")
+                        "put it there, or change the line in field.toml", FILES)
     if not there:
         return
     yield from readers(machine, field.key)
     fault = pair(machine, field.cert, field.key)
     if fault:
-        yield fault
+        yield replace(fault, about=FILES)
         return
     yield from names(machine, field.cert, (field.name, field.counter_name))
     yield from days(machine, field.cert)

@@ -7,17 +7,19 @@ import pathlib
 import subprocess
 import time
 from collections.abc import Callable, Iterable, Iterator
-from dataclasses import dataclass
+from dataclasses import dataclass, replace
 from enum import Enum
 
 from portal_field.settings.venue import Field
 
 Done = subprocess.CompletedProcess[str]
+WITHOUT_SETTINGS = "without settings"       # what cannot be looked at for want of them
 
 
 class State(str, Enum):
     """How a finding is judged."""
     GOOD = "good"
+    NOTE = "note"                   # it hinders nothing, and somebody may want it otherwise
     WARNING = "warning"
     WRONG = "wrong"
     PASSED_OVER = "passed over"     # it could not be looked at: neither good nor wrong
@@ -25,14 +27,20 @@ class State(str, Enum):
 
 @dataclass(frozen=True)
 class Finding:
-    """What a check found, and what to do."""
+    """What a check found, what to do, and what it is about where that is a part of the check: a name of
+    causes.py, which has what that stands on."""
     state: State
     what: str
     do: str = ""
+    about: str = ""
 
 
 class CannotTell(Exception):
     """Why a check, or the rest of it, cannot be made."""
+
+    def __init__(self, why: str, about: str = "") -> None:
+        super().__init__(why)
+        self.about = about
 
 
 def good(what: str) -> Finding:
@@ -40,14 +48,30 @@ def good(what: str) -> Finding:
     return Finding(State.GOOD, what)
 
 
-def warning(what: str, do: str) -> Finding:
+def note(what: str, do: str) -> Finding:
+    """A finding that is good enough, and how to have it otherwise."""
+    return Finding(State.NOTE, what, do)
+
+
+def warning(what: str, do: str, about: str = "") -> Finding:
     """A finding that hinders nothing yet."""
-    return Finding(State.WARNING, what, do)
+    return Finding(State.WARNING, what, do, about)
 
 
-def wrong(what: str, do: str) -> Finding:
+def wrong(what: str, do: str, about: str = "") -> Finding:
     """A finding that must be mended."""
-    return Finding(State.WRONG, what, do)
+    return Finding(State.WRONG, what, do, about)
+
+
+def passed_over(what: str, about: str = "") -> Finding:
+    """A finding that could not be made."""
+    return Finding(State.PASSED_OVER, what, "", about)
+
+
+def all_about(about: str, findings: Iterable[Finding]) -> Iterator[Finding]:
+    """Findings of which each is about this part of its check."""
+    for finding in findings:
+        yield replace(finding, about=about)
 
 
 class Machine:
@@ -68,7 +92,7 @@ class Machine:
     def field(self) -> Field:
         """The settings. CannotTell: they could not be read."""
         if self.field_or_none is None:
-            raise CannotTell(f"it needs the settings, which {self.unread}")
+            raise CannotTell(f"it needs the settings, which {self.unread}", WITHOUT_SETTINGS)
         return self.field_or_none
 
     def is_root(self) -> bool:
@@ -124,6 +148,6 @@ def findings_of(checks: Iterable[Look], machine: Machine) -> Iterator[tuple[str,
             for finding in look(machine):
                 yield name, finding
         except CannotTell as why:
-            yield name, Finding(State.PASSED_OVER, str(why))
+            yield name, passed_over(str(why), why.about)
         except (OSError, ValueError) as fault:
-            yield name, Finding(State.PASSED_OVER, f"it cannot be made: {fault!r}")
+            yield name, passed_over(f"it cannot be made: {fault!r}")

@@ -9,7 +9,7 @@ from collections.abc import Iterator
 from dataclasses import dataclass
 from typing import Any
 
-from portal_field.doctor.findings import CannotTell, Finding, Machine, good, warning, wrong
+from portal_field.doctor.findings import CannotTell, Finding, Machine, all_about, good, warning, wrong
 
 UP_AT_BOOT = "and have it so after a boot, too (/etc/network/interfaces)"
 LEASES = "/var/lib/misc/dnsmasq.leases"
@@ -51,7 +51,7 @@ def devices(machine: Machine) -> Iterator[Finding]:
         else:
             yield wrong(f"{key} = {name!r}: this machine has no such network device",
                         "plug it in, or change the line in field.toml; there are "
-                        + ", ".join(sorted(shown_devices)))
+                        + ", ".join(sorted(shown_devices)), key)
     counter = device_of(shown_devices, ipaddress.IPv4Interface(field.counter))
     if counter in (field.lan, field.wan):
         yield wrong(f"counter = {field.counter!r}: this address is on {counter}, which is no network of the "
@@ -65,10 +65,10 @@ def link(machine: Machine, key: str, device: dict[str, Any]) -> Finding:
     """Whether a device is up and has a link."""
     name, flags = device["ifname"], device.get("flags", ())
     if "UP" not in flags:
-        return wrong(f"{key}: {name} is down", f"`ip link set {name} up`, {UP_AT_BOOT}")
+        return wrong(f"{key}: {name} is down", f"`ip link set {name} up`, {UP_AT_BOOT}", key)
     if "LOWER_UP" not in flags:
         level = wrong if machine.is_installed else warning
-        return level(f"{key}: {name} has no link", "look at its cable, and at what is at the other end")
+        return level(f"{key}: {name} has no link", "look at its cable, and at what is at the other end", key)
     return good(f"{key}: {name} is up")
 
 
@@ -76,9 +76,10 @@ def addresses(machine: Machine) -> Iterator[Finding]:
     """Whether the addresses of guests, counter and outside are at their devices."""
     field, devices = machine.field, network_devices(machine)
     guests, counter = ipaddress.IPv4Interface(field.guests), ipaddress.IPv4Interface(field.counter)
-    yield own_address("guests", guests, devices, field.lan)
-    yield own_address("counter", counter, devices, device_of(devices, counter))
-    yield from outside(machine, devices, (guests, counter))
+    own = ("guests", guests, field.lan), ("counter", counter, device_of(devices, counter))
+    for key, address, device in own:
+        yield from all_about(f"{key} address", [own_address(key, address, devices, device)])
+    yield from all_about("wan address", outside(machine, devices, (guests, counter)))
 
 
 def own_address(key: str, address: ipaddress.IPv4Interface, devices: dict[str, Any],
@@ -286,14 +287,14 @@ def faults_at(door: Door, here: list[Listener], installed: bool) -> Iterator[Fin
         yield wrong(f"{door}: nginx listens there at every address (process {min(everywhere, key=int)}), and "
                     "the counter's own nginx needs this one",
                     f"name an address in that site's line `listen {door.port}` (`nginx -T`), then "
-                    "`systemctl restart nginx` and `portal-setup`")
+                    "`systemctl restart nginx` and `portal-setup`", f"place of {door.unit}")
     others = sorted({other for one in here for other in one.programs if other[0] != door.program})
     names = {name for name, _ in others}
     for name in sorted(names):
         process = next(number for other, number in others if other == name)
         yield wrong(f"{door}: {name} listens there (process {process}), and {door.program} needs it",
                     f"stop it (`systemctl disable --now` its unit: `systemctl status {process}`), or let it "
-                    "listen on other addresses")
+                    "listen on other addresses", f"place of {door.unit}")
     if installed and not here:
         yield wrong(f"{door}: nobody listens there, and {door.program} should",
-                    f"`systemctl status {door.unit}`")
+                    f"`systemctl status {door.unit}`", f"ports of {door.unit}")

@@ -9,7 +9,7 @@ import re
 from collections.abc import Iterator
 from typing import Any, NamedTuple
 
-from portal_field.doctor.findings import CannotTell, Finding, Machine, good, warning, wrong
+from portal_field.doctor.findings import CannotTell, Finding, Machine, all_about, good, warning, wrong
 
 OURS = {"portal.conf", "portal-guests.conf", "portal-counter.conf"}
 NOT_READ = ("~", ".dpkg-dist", ".dpkg-old", ".dpkg-new")
@@ -133,7 +133,7 @@ def of_table(row: dict[str, Any]) -> tuple[str | None, str | None]:
 
 def others(machine: Machine) -> Iterator[Finding]:
     """Lines of dnsmasq and rules of nftables beside the venue's that conflict with these."""
-    yield from other_names(machine)
+    yield from all_about("dnsmasq's files", other_names(machine))
     try:
         yield from other_rules(machine)
     except json.JSONDecodeError as fault:

@@ -18,6 +18,7 @@ PLANS, OFFERS = "/etc/portal/plans.toml", "/etc/portal/offers.toml"
 STATE = "/var/lib/portal-counter"
 NOTE, ACCEPTED = "plans.json", "accepted-plans.toml"    # as portal_field/counter/offers.py writes them
 SAMPLE = KIT / "settings/plans.toml"
+AT_SERVER = "plans at the server"
 
 
 def plans(machine: Machine) -> Iterator[Finding]:
@@ -48,7 +49,7 @@ def check_acceptance(machine: Machine) -> Iterator[Finding]:
     server = Notes(str(machine.path(NOTES))).read("state")
     if server.get("is") == "serves" and note.get("since") != server.get("since"):
         yield wrong(f"the counter has not sent {PLANS} to the server since that started",
-                    f"{RESTART}; `journalctl -u portal-counter -n 20`")
+                    f"{RESTART}; `journalctl -u portal-counter -n 20`", AT_SERVER)
         return
     yield check_plans_file(machine, note)
     yield from check_offers_file(machine, note)
@@ -72,7 +73,7 @@ def check_plans_file(machine: Machine, note: dict[str, Any]) -> Finding:
         return wrong(f"the server will not accept {PLANS}: {'; '.join(reasons)}", advice(word))
     if is_same or not note:
         return warning(f"the server has not been asked about {PLANS} yet",
-                       "the counter does it once it serves")
+                       "the counter does it once it serves", AT_SERVER)
     return warning(f"{PLANS} was changed after it was loaded", f"{RESTART}, so that it counts")
 
 

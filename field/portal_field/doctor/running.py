@@ -10,7 +10,7 @@ from collections import Counter
 from collections.abc import Iterator
 from typing import Any
 
-from portal_field.doctor.findings import Finding, Machine, good, warning, wrong
+from portal_field.doctor.findings import Finding, Machine, all_about, good, note, warning, wrong
 from portal_field.lib.desk_client import Desk, NoAnswer, Refused, Routes
 from portal_field.lib.machine_time import Notes
 from portal_field.settings import accounts
@@ -21,8 +21,9 @@ PARTS = ("portal.service", "portal-gateway.service", "portal-leases.service", "p
          "portal-give.socket", "portal-lookup@1.service", "portal-lookup@2.service", "nginx.service",
          "dnsmasq.service", "portal-backup.timer", "portal-restarts.timer")
 NOTES = "/run/portal-clock"
+START = "start of portal"       # what the server's own note is about
 NOBODY = "02:00:00:00:00:00"    # a device that no guest has
-ENOUGH = 4096                   # connections at one time
+ENOUGH, DEBIANS = 4096, 768     # connections at one time, and what Debian gives one worker
 
 
 def rules(machine: Machine) -> Iterator[Finding]:
@@ -41,10 +42,10 @@ def rules(machine: Machine) -> Iterator[Finding]:
     else:
         yield good("the tables are loaded")
         yield grace(machine, lan)
-        yield bound(machine, lan)
+        yield from all_about("bound", [bound(machine, lan)])
         yield good("packets are forwarded") if forwards else \
             wrong("packets are not forwarded: no guest gets out", f"`systemctl restart {unit}`")
-    yield from ipv6(machine, lan)
+    yield from all_about("ipv6", ipv6(machine, lan))
 
 
 def grace(machine: Machine, lan: str) -> Finding:
@@ -54,7 +55,8 @@ def grace(machine: Machine, lan: str) -> Finding:
     if any(element.get("val") == lan for element in running):
         return good("the grace timer runs")
     return wrong("the grace timer does not run: all guests are blocked, as the agent or the server is silent",
-                 "`systemctl status portal-gateway portal`, `journalctl -u portal-gateway -n 20`")
+                 "`systemctl status portal-gateway portal`, `journalctl -u portal-gateway -n 20`",
+                 "grace timer")
 
 
 def elements_of(machine: Machine, name: str) -> list[Any]:
@@ -109,12 +111,17 @@ def services(machine: Machine) -> Iterator[Finding]:
         units[row.get("Id", "")] = row
     fine = 0
     for name in sorted(unit for unit in units if unit):
-        faults = list(faults_of(name, units[name], name in needed
-                                or units[name].get("UnitFileState") == "enabled"))
+        is_needed = name in needed or units[name].get("UnitFileState") == "enabled"
+        faults = list(all_about(part_of(name), faults_of(name, units[name], is_needed)))
         fine += name in needed and not faults
         yield from faults
     yield good(f"{fine} of {len(needed)} units that every venue needs are active")
     yield from restarts(machine, set(needed) | units.keys())
+
+
+def part_of(unit: str) -> str:
+    """What a finding of a unit is about: its name without `.service`, and that of the rules without more."""
+    return "portal-rules" if unit.startswith("portal-rules@") else unit.removesuffix(".service")
 
 
 def faults_of(name: str, unit: dict[str, str], needed: bool) -> Iterator[Finding]:
@@ -144,7 +151,7 @@ def restarts(machine: Machine, units: set[str]) -> Iterator[Finding]:
     for name in sorted(unit for unit in counts if unit in units):
         times = "once" if counts[name] == 1 else f"{counts[name]} times"
         yield warning(f"{name} ended by itself and was started again {times} in the last hour",
-                      f"`journalctl -u {name} --since -1h`")
+                      f"`journalctl -u {name} --since -1h`", part_of(name))
 
 
 def connections(machine: Machine) -> Iterator[Finding]:
@@ -162,9 +169,12 @@ def connections(machine: Machine) -> Iterator[Finding]:
     count = os.cpu_count() or 1 if workers == "auto" else int(workers)
     limit_text = f"nginx takes {count * each} connections of guests ({count} workers, {each} each)"
     if count * each < ENOUGH:
-        yield warning(f"{limit_text}: few, as each guest may hold 48",
-                      f"in /etc/nginx/nginx.conf, section events: `worker_connections {ENOUGH};`, then "
-                      f"`systemctl restart nginx`")
+        # nginx has this line in one place, in a file of Debian's that includes none there
+        do = (f"in /etc/nginx/nginx.conf, section events: `worker_connections {ENOUGH};` (`sed -i "
+              f"'s/worker_connections .*;/worker_connections {ENOUGH};/' /etc/nginx/nginx.conf`), then "
+              "`systemctl restart nginx`")
+        yield warning(f"{limit_text}: few, as each guest may hold 48", do) if count * each < DEBIANS else \
+            note(f"{limit_text}: enough for a small venue, as each guest may hold 48", f"for more {do}")
     else:
         yield good(limit_text)
 
@@ -177,10 +187,10 @@ def server(machine: Machine) -> Iterator[Finding]:
     if note.get("is") == "waits":
         yield wrong(f"it waits, as the time may be wrong: {note.get('why')}",
                     "compare the time and the year with another clock. If it is right, say so on the "
-                    "counter's page; otherwise set it (`timedatectl set-time`)")
+                    "counter's page; otherwise set it (`timedatectl set-time`)", START)
         return
     if note.get("is") == "failed":
-        yield wrong(f"it does not start: {note.get('why')}", "then `systemctl restart portal`")
+        yield wrong(f"it does not start: {note.get('why')}", "then `systemctl restart portal`", START)
         return
     start = time.monotonic()
     try:

@@ -13,6 +13,7 @@ from __future__ import annotations
 import json
 import pathlib
 import tomllib
+import unicodedata
 from dataclasses import dataclass
 
 from portal_field.lib.passwords import HASHED
@@ -58,6 +59,12 @@ def fault_of_name(name: str) -> str:
     """Why this is no clerk's name, in English, or nothing."""
     good = 0 < len(name) <= MOST_NAME and ":" not in name and name.isprintable() and name == name.strip()
     return "" if good else f"a clerk's name has no colon, at most {MOST_NAME} characters, and is not empty"
+
+
+def folded(name: str) -> str:
+    """A name as it is compared with those of others: small and capital letters, and signs that are written
+    the same, are no difference."""
+    return unicodedata.normalize("NFKC", name).casefold()
 
 
 class Accounts(dict[str, Account]):

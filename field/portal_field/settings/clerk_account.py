@@ -6,7 +6,7 @@ import getpass
 import pathlib
 import sys
 from collections.abc import Callable
-from dataclasses import replace
+from dataclasses import dataclass, replace
 
 from portal_field.lib.passwords import fault_of_password, hash_of
 from portal_field.settings.accounts import (
@@ -52,9 +52,21 @@ def accounts_in(folder: pathlib.Path) -> Accounts:
         sys.exit(f"{folder / FILE}: {fault}. Nothing was changed")
 
 
-def set_account(folder: pathlib.Path, name: str, asked: str, write: Write) -> Account:
-    """Writes the accounts with a new password of this one; its PIN goes, as whoever forgot one may have
-    forgotten both. SystemExit: name or password is refused."""
+@dataclass(frozen=True)
+class NewPassword:
+    """An account with its new password, and the text of all accounts with it, which are not written yet."""
+    account: Account
+    text: str
+
+    def put(self, folder: pathlib.Path, write: Write) -> None:
+        """Writes the accounts, and says so."""
+        write(folder / FILE, self.text)
+        print(f"portal-setup: {self.account.name} is a {self.account.role}, with a new password and no PIN")
+
+
+def new_password(folder: pathlib.Path, name: str, asked: str) -> NewPassword:
+    """The accounts with a new password of this one; its PIN goes, as whoever forgot one may have forgotten
+    both. SystemExit: name, role or password is refused."""
     if why := fault_of_name(name):
         sys.exit(f"portal-setup: {why}")
     accounts = accounts_in(folder)
@@ -70,6 +82,4 @@ def set_account(folder: pathlib.Path, name: str, asked: str, write: Write) -> Ac
         sys.exit(f"portal-setup: {why}: give another one as the first line of standard input. Nothing was "
                  "changed")
     account = replace(accounts[name], password=hash_of(word), pin="")
-    write(folder / FILE, accounts.having(account).text)
-    print(f"portal-setup: {name} is a {role}, with a new password and no PIN")
-    return account
+    return NewPassword(account, accounts.having(account).text)

@@ -4,11 +4,12 @@ each time.
     setup [--root FOLDER] [--field FOLDER] [--portal PROGRAM] [--machine FOLDER] [--prices-as-shipped]
     [--clerk NAME [--role ROLE]] field.toml
 
-First the doctor's checks that make sense before an installation: devices, addresses, certificate, zone,
-clock, ports, others, plans, disk. Where one is wrong, nothing is made. With --root they are left out, unless
---machine names the folder in which that machine's files are, or --portal the program (then the zone alone is
-asked). --prices-as-shipped takes the prices of the sample, plans.toml, where there is no database yet.
---clerk NAME makes that clerk's account, or gives it a new password, from the terminal or standard input.
+First the doctor's checks that make sense before an installation: devices, addresses, certificate, logo,
+zone, clock, ports, others, plans, disk. Where one is wrong, or the clerk's password is refused, nothing is
+made. With --root they are left out, unless --machine names the folder in which that machine's files are, or
+--portal the program (then the zone alone is asked). --prices-as-shipped takes the prices of the sample,
+plans.toml, where there is no database yet. --clerk NAME makes that clerk's account, or gives it a new
+password, from the terminal or standard input.
 """
 
 from __future__ import annotations
@@ -22,11 +23,13 @@ import re
 import secrets
 import shutil
 import sys
+from collections import Counter
 from collections.abc import Iterable
 from typing import Any
 
 from portal_field import KIT
-from portal_field.doctor.base import clock, disk, zone
+from portal_field.doctor.base import clock, disk, logo, zone
+from portal_field.doctor.causes import folded, trace
 from portal_field.doctor.certificates import certificate
 from portal_field.doctor.findings import Finding, Look, Machine, State, findings_of
 from portal_field.doctor.network import addresses, devices, ports
@@ -43,7 +46,7 @@ from portal_field.settings.samples import is_sample, mark_as_chosen
 from portal_field.settings.venue import BadSettings, Field, toml_lines
 
 BEFORE: tuple[Look, ...] = (
-    devices, addresses, certificate, zone, clock, free_minutes, ports, others, optional, plans, disk)
+    devices, addresses, certificate, logo, zone, clock, free_minutes, ports, others, optional, plans, disk)
 POLICY = ("default-src 'none'; style-src 'self'; img-src 'self'; form-action 'self'; frame-ancestors 'none'; "
           "base-uri 'none'")
 
@@ -333,39 +336,60 @@ class Maker:
             self.write(self.etc / "errors" / name, text)
 
 
-def print_venue_fault(etc: pathlib.Path) -> bool:
-    """Says what is wrong with venue.toml; whether it is good, or not there."""
+def are_files_good(field: Field, path: pathlib.Path, etc: pathlib.Path) -> bool:
+    """Whether the terms are there that guests have to accept, and venue.toml has no mistake; says what is
+    wrong."""
+    if lacks_terms(field, etc):
+        print(f"setup: {path}: terms_version = {field.terms_version!r}: there is no {etc}/texts/terms.md, "
+              "which guests would have to accept\n    do: write the terms there, or empty the line",
+              file=sys.stderr)
+        return False
     try:
         venue_file.in_folder(etc)
     except venue_file.BadVenueFile as fault:
-        print(f"setup: {etc / venue_file.FILE}: {fault}", file=sys.stderr)
+        print(f"setup: {etc / venue_file.FILE}: {fault}\n    do: save the page *Payment and receipts* of the "
+              "counter again, or take the file away", file=sys.stderr)
         return False
     return True
 
 
 def examine(field: Field, machine: pathlib.Path | None, portal: str | None,
-            prices_as_shipped: bool = False) -> list[tuple[str, Finding]]:
+            prices_as_shipped: bool = False, but: tuple[Look, ...] = ()) -> list[tuple[str, Finding]]:
     """What the checks before an installation find: all of them on a machine, the zone alone where that is not
     given."""
     if machine is None and portal is None:
         return []
     place = Machine(machine or pathlib.Path("/"), field, portal or "/usr/bin/portal", False,
                     prices_as_shipped)
-    return list(findings_of(BEFORE if machine else (zone,), place))
+    looks = BEFORE if machine else (zone,)
+    return list(findings_of((look for look in looks if look not in but), place))
 
 
 def print_findings(path: pathlib.Path, findings: Iterable[tuple[str, Finding]]) -> bool:
-    """Says what is not good; whether nothing is wrong."""
-    for name, finding in findings:
+    """Says what is not good, of causes and what follows from them the causes; whether nothing is wrong."""
+    rows = trace(findings)
+    follow = Counter(row.cause for row in rows)
+    for place, row in enumerate(rows):
+        finding, more = row.finding, f"\n    {folded(follow[place])}" if follow[place] else ""
+        if row.cause is not None or finding.state is State.GOOD:
+            continue
         if finding.state is State.WRONG:
-            print(f"setup: {path}: {finding.what}\n    do: {finding.do}", file=sys.stderr)
-        elif finding.state is not State.GOOD:
-            print(f"setup: {finding.state.value}: {name}: {finding.what}", file=sys.stderr)
-    return all(finding.state is not State.WRONG for _, finding in findings)
+            print(f"setup: {path}: {finding.what}\n    do: {finding.do}{more}", file=sys.stderr)
+        else:
+            print(f"setup: {finding.state.value}: {row.check}: {finding.what}{more}", file=sys.stderr)
+    return all(row.finding.state is not State.WRONG for row in rows)
 
 
-def main() -> int:
-    """Makes every file; 1 where something is wrong, and then nothing is made."""
+def fault_of_settings(path: pathlib.Path, fault: BadSettings | OSError) -> str:
+    """What is said of settings that cannot be read."""
+    if isinstance(fault, BadSettings):
+        return f"{fault.at(path)}\n    do: {fault.do}"
+    do = "run it as root" if isinstance(fault, PermissionError) else "look at the disk: `df -h /etc`"
+    return f"{path}: {fault.strerror}\n    do: {do}"
+
+
+def read_words() -> argparse.Namespace:
+    """The words of the command line."""
     words = argparse.ArgumentParser(description="Makes every file of the field kit from field.toml.")
     words.add_argument("--root", default="/", type=pathlib.Path, help="the folder under which all is written")
     words.add_argument("--field", default=str(KIT), help="where the kit will stand")
@@ -382,25 +406,27 @@ def main() -> int:
     args = words.parse_args()
     if args.root == pathlib.Path("/"):
         args.portal, args.machine = args.portal or "/usr/bin/portal", args.machine or args.root
+    return args
+
+
+def main() -> int:
+    """Makes every file; 1 where something is wrong, and then nothing is made."""
+    args = read_words()
     try:
-        field = Field.read(args.settings.read_text(encoding="utf-8"))
-    except (BadSettings, OSError, ValueError) as fault:
-        print(f"setup: {args.settings}: {fault}", file=sys.stderr)
+        field = Field.in_file(args.settings)
+    except (BadSettings, PermissionError) as fault:
+        print(f"setup: {fault_of_settings(args.settings, fault)}", file=sys.stderr)
         return 1
-    if lacks_terms(field, args.root / "etc/portal"):
-        print(f"setup: {args.settings}: terms_version = {field.terms_version!r}: there are no terms in "
-              f"{args.root / 'etc/portal/texts/terms.md'}", file=sys.stderr)
-        return 1
-    if not print_venue_fault(args.root / "etc/portal"):
+    if not are_files_good(field, args.settings, args.root / "etc/portal"):
         return 1
     if not print_findings(args.settings, examine(field, args.machine, args.portal, args.prices_as_shipped)):
         return 1
-    os.umask(0o022)
     maker = Maker(field, args.root, args.field, args.prices_as_shipped)
+    clerk = clerk_account.new_password(maker.etc, args.clerk, args.role or "") if args.clerk else None
+    os.umask(0o022)
     maker.settings()
     maker.others()
-    if args.clerk:
-        clerk_account.set_account(maker.etc, args.clerk, args.role or "",
-                                  lambda path, text: maker.write(path, text, accounts.MODE, accounts.GROUP))
+    if clerk:
+        clerk.put(maker.etc, lambda path, text: maker.write(path, text, accounts.MODE, accounts.GROUP))
     print("made in", args.root)
     return 0

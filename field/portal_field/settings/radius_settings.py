@@ -9,6 +9,8 @@ from dataclasses import dataclass, fields
 from dataclasses import field as listing
 from typing import Any
 
+from portal_field.lib.nearest import unknown
+
 NAME = re.compile(r"[a-z0-9]([a-z0-9-]{0,30}[a-z0-9])?")
 
 
@@ -56,9 +58,8 @@ def known_lines(cls: type, what: str, given: object) -> dict[str, Any]:
     """The lines of a table, of which none is unknown."""
     if not isinstance(given, dict):
         raise BadRadius(f"{what} is a table")
-    unknown = given.keys() - {field.name for field in fields(cls)}
-    if unknown:
-        raise BadRadius(f"{what}: unknown: {', '.join(sorted(unknown))}")
+    if words := unknown(given, (field.name for field in fields(cls))):
+        raise BadRadius(f"{what}: {words}")
     return given
 
 

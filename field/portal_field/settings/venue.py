@@ -4,14 +4,17 @@ from __future__ import annotations
 
 import ipaddress
 import json
+import pathlib
 import re
 import tomllib
 from dataclasses import MISSING, dataclass, fields
 from dataclasses import field as listing
 from typing import Any
 
+from portal_field import KIT
 from portal_field.lib.colours import COLOUR
 from portal_field.lib.language_names import COUNTER, GUESTS
+from portal_field.lib.nearest import unknown
 from portal_field.lib.zones import NoZone, rule_of
 from portal_field.settings import venue_file
 from portal_field.settings.radius_settings import BadRadius, Radius
@@ -36,17 +39,63 @@ LANGUAGES, COUNTER_LANGUAGES = tuple(GUESTS), tuple(COUNTER)
 VOUCHER_SIZES = ("a4", "letter", "a4-24", "a4-21", "label", "receipt80", "receipt58")
 RECEIPT_SIZES = ("", "receipt80", "receipt58")      # as portal_field/counter/receipt_text.py has them
 SEPARATORS = ("", ",", ";", "\t")
+A_HOST = ("a name of your own domain, such as wifi.DOMAIN, of a-z, digits, hyphens and at least one point: a "
+          "certificate is for it")
+A_DEVICE = "a network device by its name, as `ip link` shows it"
+A_PATH = "the whole path of a file, from / on, of letters, digits and ._-"
 CLOCKS = ("kernel", "host", "clerk")     # as portal_field/server/right_time.py has them
 
 
+MEND = "mend that line, then run set-up (`portal-setup`) again"
+ADD = f"add it as {KIT}/settings/field.toml has it, then run set-up (`portal-setup`) again"
+OTHER_TEXT = "save it as UTF-8 (`iconv -f ISO-8859-1 -t UTF-8`), then run set-up (`portal-setup`) again"
+NO_FILE = f"`cp {KIT}/settings/field.toml {{}}`, the sample, then `portal-setup --ask`"
+
+
 class BadSettings(Exception):
-    """A line of field.toml is missing, unknown, or not what it must be."""
+    """What is wrong with field.toml, in words that begin with the key of the line that they are of; that
+    line's number, 0 where it is of none; and what to do."""
+
+    def __init__(self, what: str, line: int = 0, do: str = MEND) -> None:
+        super().__init__(what)
+        self.line, self.do = line, do
+
+    def at(self, path: pathlib.Path) -> str:
+        """What is wrong, and where."""
+        return f"{path}, line {self.line}: {self}" if self.line else f"{path}: {self}"
+
+
+def line_of(text: str, words: str) -> int:
+    """The number of the line that words are of: they begin with its key, or with its table and then the key;
+    0 where no line has it."""
+    lines, (table, _, rest) = text.splitlines(), words.replace("unknown: ", "", 1).partition(": ")
+    head = next((place for place, line in enumerate(lines) if line.startswith(f"[{table}]")), -1)
+    key = re.match(r"\w+", rest if head >= 0 else table)
+    own = re.compile(rf"\s*{key[0]}\s*=") if key else None
+    for place, line in enumerate(lines[head + 1:], head + 2):
+        if own and own.match(line):
+            return place
+        if line.startswith("["):
+            break
+    return head + 1
+
+
+def address_with_length(key: str, value: Any) -> ipaddress.IPv4Interface:
+    """The address of a line, with its network's length. BadSettings: it is none."""
+    try:
+        if "/" in value:
+            return ipaddress.IPv4Interface(value)
+    except (ValueError, TypeError):
+        pass
+    raise BadSettings(f"{key} = {value!r}: this machine's address with its network's length, such as "
+                      "10.77.0.1/22")
 
 
 def rule(zone: Any) -> str:
     """The POSIX rule of the line `zone`, which may also name a time zone."""
     if not (isinstance(zone, str) and ZONE.fullmatch(zone)):
-        raise BadSettings(f"zone = {zone!r}")
+        raise BadSettings(f"zone = {zone!r}: the name of a time zone, such as Europe/Berlin, or its POSIX "
+                          "rule")
     try:
         return rule_of(zone)
     except NoZone as fault:
@@ -107,21 +156,41 @@ class Field:
     radius: dict[str, Any] = listing(default_factory=dict)
 
     @classmethod
+    def in_file(cls, path: pathlib.Path) -> Field:
+        """The settings in a file. BadSettings: there is none, or it is not what it must be. PermissionError:
+        this user may not read it."""
+        try:
+            data = path.read_bytes()
+            return cls.read(data.decode())
+        except FileNotFoundError as fault:
+            raise BadSettings("there is no such file", do=NO_FILE.format(path)) from fault
+        except PermissionError:
+            raise
+        except OSError as fault:
+            raise BadSettings(f"it cannot be read: {fault.strerror}", do="name a file that can") from fault
+        except UnicodeDecodeError as fault:
+            raise BadSettings(f"the byte 0x{data[fault.start]:02x} is not UTF-8",
+                              data.count(b"\n", 0, fault.start) + 1, OTHER_TEXT) from fault
+
+    @classmethod
     def read(cls, text: str) -> Field:
         """The settings in a text. BadSettings: a line is not valid, or missing."""
         try:
             lines = tomllib.loads(text)
         except tomllib.TOMLDecodeError as fault:
-            raise BadSettings(str(fault)) from fault
-        unknown = lines.keys() - {field.name for field in fields(cls)}
+            place = re.search(r"at line (\d+)", str(fault))
+            raise BadSettings(f"this is no TOML: {fault}", int(place[1]) if place else 0) from fault
         needed = {f.name for f in fields(cls) if f.default is MISSING and f.default_factory is MISSING}
-        missing = needed - lines.keys()
-        for what, names in (("unknown", unknown), ("missing", missing)):
-            if names:
-                raise BadSettings(f"{what}: {', '.join(sorted(names))}")
-        lines["zone"] = rule(lines["zone"])
-        field = cls(**lines)
-        field.check()
+        if words := unknown(lines, (field.name for field in fields(cls))):
+            raise BadSettings(words, line_of(text, words))
+        if missing := sorted(needed - lines.keys()):
+            raise BadSettings(f"missing: {', '.join(missing)}", do=ADD)
+        try:
+            lines["zone"] = rule(lines["zone"])
+            field = cls(**lines)
+            field.check()
+        except BadSettings as fault:
+            raise BadSettings(str(fault), line_of(text, str(fault))) from fault
         return field
 
     @property
@@ -132,16 +201,18 @@ class Field:
     def check(self) -> None:
         """BadSettings: a line is not valid. Words go into other programs' files, so each is of its own
         shape."""
-        shapes = {"name": HOST, "counter_name": HOST, "lan": DEVICE, "wan": DEVICE, "cert": PATH, "key": PATH}
-        for key, shape in shapes.items():
+        shapes = {"name": (HOST, A_HOST), "counter_name": (HOST, A_HOST), "lan": (DEVICE, A_DEVICE),
+                  "wan": (DEVICE, A_DEVICE), "cert": (PATH, A_PATH), "key": (PATH, A_PATH)}
+        for key, (shape, words) in shapes.items():
             value = getattr(self, key)
             if not (isinstance(value, str) and shape.fullmatch(value)):
-                raise BadSettings(f"{key} = {value!r}")
+                raise BadSettings(f"{key} = {value!r}: {words}")
         for one, other in (("lan", "wan"), ("name", "counter_name")):
             if getattr(self, one) == getattr(self, other):
                 raise BadSettings(f"{one} and {other} are the same: {getattr(self, one)}")
-        if not all(isinstance(text, str) for text in (self.house, self.help)):
-            raise BadSettings("house and help are words")
+        for key in ("house", "help"):
+            if not isinstance(getattr(self, key), str):
+                raise BadSettings(f"{key} = {getattr(self, key)!r}: words in quotes")
         limits = {"desk_port": (1, 65535), "poll_seconds": (0.2, 10), "grace_seconds": (2, 60),
                   "quiet_seconds": (1, 3600), "time_quiet_seconds": (1, 86400)}
         for key, (least, most) in limits.items():
@@ -291,14 +362,17 @@ class Field:
 
     def check_networks(self) -> None:
         """BadSettings: an address or the leases are not valid."""
+        guests, counter = (address_with_length(key, getattr(self, key)) for key in ("guests", "counter"))
+        leases = (f"leases = {self.leases}: first and last address within {guests.network}, the network of "
+                  f"guests = \"{self.guests}\", and a time such as 1h")
         try:
-            guests, counter = ipaddress.IPv4Interface(self.guests), ipaddress.IPv4Interface(self.counter)
             first, last, time = self.leases
             leased = ipaddress.IPv4Address(first), ipaddress.IPv4Address(last)
         except (ValueError, TypeError) as fault:
-            raise BadSettings(f"guests, counter or leases: {fault}") from fault
+            raise BadSettings(leases) from fault
         if guests.network.overlaps(counter.network):
-            raise BadSettings("guests and counter are on one network")
+            raise BadSettings(f"counter = \"{counter}\" is on the network of guests = \"{guests}\": each "
+                              "needs one of its own")
         for key, own in (("guests", guests), ("counter", counter)):
             if own.network.prefixlen > 30 or own.ip in (own.network.network_address,
                                                         own.network.broadcast_address):
@@ -306,8 +380,7 @@ class Field:
         ends = guests.network.network_address, guests.network.broadcast_address
         if not (ends[0] < leased[0] <= leased[1] < ends[1] and isinstance(time, str)
                 and TIME.fullmatch(time)):
-            raise BadSettings("leases: first and last address within the guests' network, and a time such as "
-                              "1h")
+            raise BadSettings(leases)
         if leased[0] <= guests.ip <= leased[1]:
             raise BadSettings(f"leases: {guests.ip} is this machine's own address and would be given to a "
                               f"guest")

@@ -13,6 +13,8 @@ import pathlib
 import tomllib
 from typing import Any
 
+from portal_field.lib.nearest import unknown
+
 FILE, MODE, GROUP = "venue.toml", 0o640, "portal-counter"
 # texts of a list: at least and at most so many, of so many signs
 LISTS = {"payments": (1, 8, 20), "drawers": (0, 20, 20), "receipt_head": (0, 10, 100)}
@@ -56,8 +58,8 @@ def read(text: str) -> dict[str, Any]:
         values = tomllib.loads(text)
     except tomllib.TOMLDecodeError as fault:
         raise BadVenueFile(f"it is not TOML: {fault}") from fault
-    if unknown := values.keys() - set(KEYS):
-        raise BadVenueFile(f"unknown: {', '.join(sorted(unknown))}")
+    if words := unknown(values, KEYS):
+        raise BadVenueFile(words)
     for key, value in values.items():
         if why := fault_of(key, value):
             raise BadVenueFile(why)

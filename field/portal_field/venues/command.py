@@ -119,8 +119,8 @@ def clerk(args: argparse.Namespace) -> int:
     if not places.field.exists():
         raise BadVenue(f"there is no venue {places.name}")
     writer = Files(None, ROOT, "")      # type: ignore[arg-type]
-    clerk_account.set_account(places.settings, args.clerk, args.role or "",
-                              lambda path, text: writer.write(path, text, accounts.MODE, accounts.GROUP))
+    clerk_account.new_password(places.settings, args.clerk, args.role or "").put(
+        places.settings, lambda path, text: writer.write(path, text, accounts.MODE, accounts.GROUP))
     return 0
 
 

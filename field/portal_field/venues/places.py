@@ -11,6 +11,8 @@ from dataclasses import dataclass, fields
 from dataclasses import field as listing
 from typing import Any
 
+from portal_field.lib.nearest import unknown
+
 NAME = re.compile(r"[a-z0-9]([a-z0-9-]{0,18}[a-z0-9])?")
 PATH = re.compile(r"/[A-Za-z0-9/._-]+")
 CLOCKS = ("kernel", "host", "clerk")     # as portal_field/server/right_time.py has them
@@ -101,8 +103,8 @@ class Machine:
             lines: dict[str, Any] = tomllib.loads(text)
         except tomllib.TOMLDecodeError as fault:
             raise BadVenue(str(fault)) from fault
-        if unknown := lines.keys() - {line.name for line in fields(cls)}:
-            raise BadVenue(f"unknown: {', '.join(sorted(unknown))}")
+        if words := unknown(lines, (line.name for line in fields(cls))):
+            raise BadVenue(words)
         if "listen" not in lines:
             raise BadVenue("missing: listen, this machine's address at which the counters' pages answer")
         machine = cls(**lines)
