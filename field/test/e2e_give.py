@@ -56,8 +56,16 @@ class GiveLab(Lab):
                            *map(json.dumps, questions))
         return list(json.loads(done.stdout))
 
+    def change_device(self, guest: str, device: str) -> None:
+        """Makes a guest another device, and asks for its lease."""
+        for words in (("link", "set", "eth0", "down"), ("addr", "flush", "dev", "eth0"), ("link", "set", "eth0", "address", device),
+                      ("link", "set", "eth0", "up")):
+            self.within(guest, "ip", *words)
+        self.lease(guest)
+        self.until(lambda: device in self.curl(guest, PORTAL)[1], 10, "the page of the device")
 
-pytestmark = [pytest.mark.packets, pytest.mark.lab(kind=GiveLab, free_plan="free", free_daily=3)]
+
+pytestmark = [pytest.mark.packets, pytest.mark.lab(kind=GiveLab, free_plan="free", free_daily=20)]
 
 
 def test_two_touches(lab: GiveLab) -> None:
@@ -113,6 +121,22 @@ def test_away(lab: GiveLab) -> None:
     if session is not None:
         lab.send_as_clerk("close", session=session)
     assert lab.page_with_a_button("guest2"), "it comes again"
+
+
+def test_one_laptop(lab: GiveLab) -> None:
+    """An hour has four: a laptop that comes as one new device after another gets no more than is left above half."""
+    try:
+        for number in range(6):
+            lab.change_device("guest1", f"02:aa:00:00:01:{number:02x}")
+            page = lab.curl("guest1", PORTAL)[1]
+            if "Go online without a code" in page:
+                assert lab.press("guest1", page)[0] == 303, "it is online"
+            else:
+                assert re.search(r"Your device can have it from \d\d:\d\d on\.", page), f"it reads from when on  [{page}]"
+    finally:
+        lab.change_device("guest1", MACS["guest1"])
+    counts = json.loads((lab.root / "var/lib/portal-give/days.json").read_text())
+    assert sum(counts.values()) == 3, f"one of the hour's is left to who was there before  [{counts}]"
 
 
 def test_no_fault_in_a_log(lab: GiveLab) -> None:

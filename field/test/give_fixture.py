@@ -68,6 +68,10 @@ class Gives(unittest.TestCase):
         desk.cut = cut
         return Giver(desk, Record(self.folder / "given.db"), self.devices.get, self.conf, lambda: self.clock[0], lambda: self.ticks[0])
 
+    def knows(self, place: str, seconds: float = 3600) -> None:
+        """Has the part know the device at an address for so many seconds."""
+        self.giver.record.do("INSERT INTO known VALUES (?, ?)", self.devices[place], self.clock[0] - seconds)
+
     def tells(self, age: float = 0) -> None:
         """Writes the gateway's list, as its agent would, so many seconds ago."""
         rows = self.desk.gateway.request_json(Routes.SESSIONS)["sessions"]

@@ -19,16 +19,19 @@ from unittest import mock
 
 from desk_process import PLANS, Desk, Routes
 from fake_machine import SAMPLE, FakeMachine
-from give_fixture import FREE_PLAN, PLACE, serve_in_test
+from give_fixture import FREE_PLAN, NOON, PLACE, serve_in_test
 from test_front import MAC, OTHER, Served
 
 from portal_field.counter.clerk import Counter
 from portal_field.counter.journal import Journal
 from portal_field.doctor.findings import State
 from portal_field.doctor.prices import free_minutes
+from portal_field.give.budget import Budget
 from portal_field.give.giver import Giver
-from portal_field.give.record import Record
+from portal_field.give.record import Gift, Record
 from portal_field.guests import gifts
+from portal_field.lib import local_time
+from portal_field.lib.language_names import GUESTS
 from portal_field.settings.venue import BadSettings, Field
 
 
@@ -47,8 +50,8 @@ class Gifts(Served):
                                           "free_daily": 9}
         self.conf.update(give=str(folder / "give"), free=True)
         self.head["X-Real-IP"] = PLACE
-        part = Giver(Desk(self.relay.port, "desk-token"), Record(folder / "given.db"), lambda _: self.device, self.give_conf)
-        serve_in_test(self, part, folder / "give")
+        self.part = Giver(Desk(self.relay.port, "desk-token"), Record(folder / "given.db"), lambda _: self.device, self.give_conf)
+        serve_in_test(self, self.part, folder / "give")
         self.tells()
 
     def tells(self) -> None:
@@ -109,6 +112,24 @@ class FreeMinutes(Gifts):
     def test_the_days_last_one_is_said(self) -> None:
         self.give_conf["free_daily"] = 0
         self.assertIn(f"<p>{gifts.NONE_LEFT}</p>", self.ask("GET", "/portal")[1])
+
+    def test_who_has_to_wait_reads_from_when_on(self) -> None:
+        """The minute at whose begin it is so, in each language of the page."""
+        local_time.use_zone("UTC0")
+        self.part.now = lambda: NOON + 30.0
+        page = self.ask("GET", "/portal")[1]
+        self.enterContext(mock.patch.object(local_time, "today", lambda: datetime.datetime.fromtimestamp(NOON, datetime.UTC).date()))
+        self.part.record.begin_gift(Gift("02:00:00:00:00:09", self.part.today, "free"), Budget(4, 1.0, NOON))
+        words = "A lot of free time was given out in the last hour. Your device can have it from 12:11 on. Please open this page again then."
+        text = self.ask("GET", "/portal")[1]
+        self.assertEqual((text.count(f"<p>{words}</p>"), "Go online without a code" in text, 'name="code"' in text), (1, False, True))
+        status, text, _ = self.press(page)
+        self.assertEqual((status, text.count("12:11"), self.sessions()), (409, 1, []))
+        self.assertIn(f'<p class="bad" id="bad" role="alert">{words}</p>', text)
+        for tag in GUESTS:
+            self.assertIn("12:11", self.ask("GET", f"/portal?lang={tag}")[1], tag)
+        self.part.now = lambda: NOON + 660.0
+        self.assertEqual((self.press(self.ask("GET", "/portal")[1])[0], self.sessions()), (303, [1]))
 
     def test_a_venue_that_gives_nothing_has_no_button(self) -> None:
         page = self.ask("GET", "/portal")[1]

@@ -18,6 +18,7 @@ from desk_process import PLANS, DeskProcess, Routes
 from give_fixture import NOON, OTHER, OTHER_PLACE, PHONE, PLACE, Gives, serve_in_test
 
 from portal_field.give import giver, record
+from portal_field.give.budget import hourly
 from portal_field.give.record import Record
 from portal_field.lib import doors
 from portal_field.lib.local_time import use_zone
@@ -150,6 +151,114 @@ class Free(Quiet):
         self.assertEqual((self.word("free"), self.sold(), self.sessions()), ("no_record", 0, {}))
 
 
+class Hour(Quiet):
+    """One laptop with many addresses, and the others. Ten vouchers an hour: one comes back each 360 seconds."""
+
+    def setUp(self) -> None:
+        super().setUp()
+        self.conf["free_daily"] = 80
+        self.knows(PLACE, 6 * 3600)
+
+    def place(self, known: float = 0) -> str:
+        """The address of a device more, which the part knows for so many seconds."""
+        number = len(self.devices)
+        place = f"10.77.1.{number}"
+        self.devices[place] = f"02:00:00:00:01:{number:02x}"
+        if known:
+            self.knows(place, known)
+        return place
+
+    def take(self, known: float = 0) -> int:
+        """Has devices more, known for so long, ask one after another until one has to wait: how many had one."""
+        count = 0
+        while (word := self.word("free", self.place(known))) == "done":
+            count += 1
+        self.assertEqual(word, "wait")
+        return count
+
+    def test_an_eighth_of_a_day_and_at_least_four(self) -> None:
+        self.assertEqual({daily: hourly(daily) for daily in (1, 3, 20, 32, 33, 80, 200, 100_000)},
+                         {1: 4, 3: 4, 20: 4, 32: 4, 33: 5, 80: 10, 200: 25, 100_000: 12_500})
+
+    def test_many_addresses_of_one_laptop_leave_half_to_who_was_there_before(self) -> None:
+        self.asks("look", OTHER_PLACE)
+        self.clock[0] += 600
+        self.giver = self.start()
+        words = [self.word("free", self.place()) for _ in range(24)]
+        self.assertEqual(words, ["done"] * 5 + ["wait"] * 19)
+        self.assertEqual((self.asks("look", OTHER_PLACE)["free"], self.word("free", OTHER_PLACE)), ("yes", "done"))
+        self.assertEqual(self.sold(), 6)
+
+    def test_below_half_a_device_has_to_be_known_for_ten_minutes(self) -> None:
+        self.take()
+        late = self.place()
+        waits = {"answer": "wait", "begin": NOON + 600}
+        self.assertEqual((self.asks("free", late), self.asks("look", late)["free"], self.asks("look", late)["begin"]), (waits, "wait", NOON + 600))
+        self.clock[0] += 599
+        self.take()
+        self.assertEqual(self.asks("free", late), waits, "the others took what came back")
+        self.clock[0] += 1
+        self.take()
+        self.assertEqual(self.word("free", late), "done")
+        self.assertEqual(self.word("free", self.place()), "wait")
+
+    def test_a_device_is_known_for_a_day(self) -> None:
+        self.asks("look", OTHER_PLACE)
+        self.clock[0] += DAY + 1
+        self.take()
+        self.assertEqual(self.asks("free", OTHER_PLACE)["begin"], self.clock[0] + 600)
+        self.assertEqual(self.giver.record.count("SELECT count(*) FROM known WHERE since <= ?", NOON), 0, "and is not kept longer")
+
+    def test_nobody_waits_while_more_than_half_is_left(self) -> None:
+        self.assertEqual(self.take(), 5)
+        self.clock[0] += 1
+        self.assertEqual(self.take(), 1, "once there is more than half again")
+
+    def test_what_is_used_up_comes_back_evenly_within_the_hour(self) -> None:
+        self.assertEqual(self.take(known=3600), 10)
+        self.assertEqual(self.asks("free"), {"answer": "wait", "begin": NOON + 360})
+        self.clock[0] += 359
+        self.assertEqual(self.word("free"), "wait")
+        self.clock[0] += 1
+        self.assertEqual((self.word("free"), self.take(known=3600)), ("done", 0))
+        self.clock[0] += 5 * 3600
+        self.assertEqual(self.take(known=3600), 10, "and no more than that of one hour")
+
+    def test_a_day_takes_seven_hours_whoever_asks(self) -> None:
+        count, hours = self.take(known=3600), 0
+        while count < 80:
+            self.clock[0], hours = self.clock[0] + 3600, hours + 1
+            for _ in range(10):
+                count += self.word("free", self.place(known=3600)) == "done"
+        self.assertEqual((hours, self.word("free")), (7, "none_left"))
+
+    def test_a_restart_gives_nothing_back(self) -> None:
+        self.take(known=3600)
+        self.giver = self.start()
+        self.assertEqual(self.asks("free"), {"answer": "wait", "begin": NOON + 360})
+
+    def test_a_clock_that_is_set_back_gives_nothing_and_stops_nothing(self) -> None:
+        self.take(known=3600)
+        for back in (3600, 2 * 3600):
+            self.clock[0] = NOON - back
+            self.assertEqual(self.asks("free"), {"answer": "wait", "begin": NOON - back + 360})
+        self.clock[0] += 360
+        self.assertEqual(self.word("free"), "done")
+
+    def test_what_was_begun_goes_on_where_none_is_left(self) -> None:
+        self.giver = self.start(cut=5)
+        self.assertEqual(self.word("free"), "no_answer")
+        self.giver = self.start()
+        self.assertEqual(self.take(known=3600), 9)
+        self.assertEqual(self.asks("free"), {"answer": "done", "session": 1, "extended": False})
+
+    def test_who_is_online_does_not_wait(self) -> None:
+        code, = self.desk.sell_codes("hour", "b1")
+        self.desk.desk.request_json(Routes.REDEEM, body={"code": code}, device=PHONE)
+        self.take(known=3600)
+        self.assertEqual(self.asks("free"), {"answer": "online"})
+
+
 class End(Quiet):
     def test_a_device_ends_its_own_session(self) -> None:
         self.word("free")
@@ -245,6 +354,7 @@ class Refused(Quiet):
         for number in range(5):
             place = f"10.77.0.6{number}"
             self.devices[place] = f"02:00:00:00:01:0{number}"
+            self.knows(place)
             self.assertEqual(self.word("free", place), "done" if number < 3 else "none_left")
         self.assertEqual(self.asks("look", place)["free"], "none_left")
         self.clock[0] -= DAY
@@ -271,8 +381,10 @@ class Refused(Quiet):
         with mock.patch.dict(giver.A_MINUTE, free=4, look=4):
             self.assertEqual([self.word("free") for _ in range(6)], ["done", *["online"] * 3, "busy", "busy"])
             self.assertEqual([self.word("look") for _ in range(6)], [*["done"] * 4, "busy", "busy"])
+            self.assertEqual((self.word("look", OTHER_PLACE), self.word("free", OTHER_PLACE)), ("done", "done"), "another device")
             self.ticks[0] += 60
             self.assertEqual((self.word("free"), self.word("look")), ("online", "done"))
+            self.assertEqual(set(self.giver.requests), {("free", PHONE), ("look", PHONE)}, "what is over is not kept")
 
     def test_a_device_ends_so_many_sessions_a_day_and_so_does_the_venue(self) -> None:
         self.devices["10.77.0.60"] = third = "02:00:00:00:00:03"

@@ -6,18 +6,18 @@ the limits of a day. No code leaves this part: it redeems the voucher itself.
 
 A request is a JSON object of one connection, up to its end: `act` (`look`, `end` or `free`), `address`,
 `device` and `session`, which is 0 where none is ended. The answer is an object with `answer`: `done`, or the
-word of a refusal.
+word of a refusal; with `wait` goes `begin`, the time from which on it may be another.
 """
 
 from __future__ import annotations
 
-import collections
 import csv
 import datetime
 import hashlib
 import io
 import ipaddress
 import json
+import math
 import pathlib
 import re
 import sqlite3
@@ -27,6 +27,7 @@ import time
 from collections.abc import Callable
 from typing import Any
 
+from portal_field.give.budget import Budget, hourly
 from portal_field.give.record import Gift, Record
 from portal_field.lib.desk_client import Desk, NoAnswer, Refused, Routes, credential, settings
 from portal_field.lib.devices import Devices, Holders
@@ -39,7 +40,7 @@ KEYS = {"act": str, "address": str, "device": str, "session": int}
 MOST_BYTES = 500            # of a request
 MOST_SESSION = 2 ** 53      # as the server numbers them
 DEVICE = re.compile(r"[0-9a-f]{2}(:[0-9a-f]{2}){5}")
-A_MINUTE = {"look": 1200, "end": 60, "free": 60}        # requests of all devices
+A_MINUTE = {"look": 60, "end": 60, "free": 12}     # requests: of a device; to end, of all devices
 ENDS_OF_DEVICE, ENDS_OF_VENUE = 10, 200                 # sessions that are ended on a day
 OLD_LIST = 10               # seconds after which the gateway's list names nobody's session
 TURN = 10.0                 # seconds for which an act waits for another one
@@ -51,7 +52,11 @@ WORDS = {**dict.fromkeys(USELESS, "had"), "unknown_plan": "off",
 
 
 class Refusal(Exception):
-    """Nothing was done; the word of the answer."""
+    """Nothing was done; the word of the answer, and what else is in it."""
+
+    def __init__(self, word: str, **more: Any) -> None:
+        super().__init__(word)
+        self.more = more
 
 
 def read_request(data: bytes) -> dict[str, Any]:
@@ -77,7 +82,7 @@ class Giver:
         self.desk, self.record, self.device_at, self.conf = desk, record, device_at, conf
         self.now, self.tick = now, tick
         self.lock, self.turn = threading.Lock(), threading.Lock()
-        self.requests = {act: collections.deque[float]() for act in A_MINUTE}
+        self.requests: dict[tuple[str, str], list[float]] = {}      # of the last minute, by act and device
 
     @property
     def today(self) -> datetime.date:
@@ -89,11 +94,11 @@ class Giver:
         act = "?"
         try:
             fields = read_request(data)
-            act = fields["act"]
-            self.count_request(act)
-            reply = {"answer": "done", **self.act(act, self.device(fields), fields["session"])}
+            act, device = fields["act"], self.device(fields)
+            self.count_request(act, "" if act == "end" else device)
+            reply = {"answer": "done", **self.act(act, device, fields["session"])}
         except Refusal as refusal:
-            reply = {"answer": str(refusal)}
+            reply = {"answer": str(refusal), **refusal.more}
         except (sqlite3.Error, OSError) as fault:
             print(f"<3>give: {self.record.path}: {fault}", file=sys.stderr, flush=True)
             reply = {"answer": "no_record"}
@@ -101,15 +106,15 @@ class Giver:
             print(f"give: {act}: {reply['answer']}", file=sys.stderr, flush=True)
         return reply
 
-    def count_request(self, act: str) -> None:
-        """Counts a request. Refusal: there were too many within a minute."""
+    def count_request(self, act: str, device: str) -> None:
+        """Counts a request, of a device or of all. Refusal: there were too many within a minute."""
         with self.lock:
-            recent, now = self.requests[act], self.tick()
-            while recent and now - recent[0] >= 60:
-                recent.popleft()
+            now = self.tick()
+            self.requests = {key: times for key, times in self.requests.items() if now - times[-1] < 60}
+            recent = [moment for moment in self.requests.get((act, device), []) if now - moment < 60]
             if len(recent) >= A_MINUTE[act]:
                 raise Refusal("busy")
-            recent.append(now)
+            self.requests[act, device] = [*recent, now]
 
     def device(self, fields: dict[str, Any]) -> str:
         """The device of a request, if it holds the lease of the address. Refusal: it does not."""
@@ -139,15 +144,15 @@ class Giver:
 
     def look(self, device: str) -> Answer:
         """The session of a device, where the gateway's list has one; whether it can have the free voucher of
-        today, and what that is worth."""
+        today, or from when on, and what that is worth."""
         plan = self.free_plan()
+        free: Answer = {"free": "yes"}
         try:
             self.new_gift(device, plan)
-            free = "yes"
         except Refusal as refusal:
-            free = str(refusal)
+            free = {"free": str(refusal), **refusal.more}
         worth = {key: plan[key] for key in ("seconds", "bytes")} if plan else {}
-        return {"session": self.session_of(device), "free": free, **worth}
+        return {"session": self.session_of(device), **free, **worth}
 
     # The end of a session
 
@@ -197,6 +202,10 @@ class Giver:
         is_good = plan is not None and plan.get("price") == 0 and {"seconds", "bytes"} <= plan.keys()
         return plan if is_good else None
 
+    def budget(self) -> Budget:
+        """What is left of the hour's free vouchers."""
+        return self.record.budget(hourly(self.conf["free_daily"]), self.now())
+
     def new_gift(self, device: str, plan: Plan | None) -> Gift:
         """The free voucher that a device can have now: of today, or one that was begun and is not over.
         Refusal: it has none. One of a later day counts, as the clock was set back since."""
@@ -209,21 +218,27 @@ class Giver:
             return last
         if self.record.gifts_since(today) >= self.conf["free_daily"]:
             raise Refusal("none_left")
+        budget = self.budget()
+        begin = budget.begin(self.record.known_since(device, budget.at))
+        if begin > budget.at:
+            raise Refusal("wait", begin=math.ceil(begin))
         return Gift(device, today, str(plan["id"]))
 
     def free(self, device: str) -> Answer:
         """Gives a device its free voucher of today, and redeems it: the session. Refusal: it is online, has
-        had one, or none is left."""
+        had one, has to wait, or none is left."""
         is_online = not self.desk.request_json(Routes.CAPTIVE, device=device)["captive"]
         try:
             gift = self.new_gift(device, self.free_plan())
         except Refusal as refusal:
-            raise Refusal("online" if is_online else str(refusal)) from refusal
+            if is_online:
+                raise Refusal("online") from refusal
+            raise
         is_begun = self.record.last_gift(device) == gift
         if is_online and not is_begun:
             raise Refusal("online")
         if not is_begun:
-            self.record.begin_gift(gift)
+            self.record.begin_gift(gift, self.budget().less_one())
         try:
             reply = self.redeem(gift, self.sold_code(gift))
         except Refused as refusal:

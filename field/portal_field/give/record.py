@@ -12,15 +12,21 @@ import sqlite3
 from collections.abc import Iterator
 from dataclasses import dataclass
 
+from portal_field.give.budget import Budget
+
 TABLES = """
 CREATE TABLE IF NOT EXISTS free (device TEXT NOT NULL, day TEXT NOT NULL, plan TEXT NOT NULL,
     is_sold INTEGER NOT NULL DEFAULT 0, is_over INTEGER NOT NULL DEFAULT 0,
     PRIMARY KEY (device, day)) WITHOUT ROWID;
 CREATE TABLE IF NOT EXISTS ends (device TEXT NOT NULL, session INTEGER NOT NULL, day TEXT NOT NULL,
     PRIMARY KEY (device, session)) WITHOUT ROWID;
-CREATE TABLE IF NOT EXISTS days (day TEXT NOT NULL PRIMARY KEY, count INTEGER NOT NULL) WITHOUT ROWID"""
+CREATE TABLE IF NOT EXISTS days (day TEXT NOT NULL PRIMARY KEY, count INTEGER NOT NULL) WITHOUT ROWID;
+CREATE TABLE IF NOT EXISTS known (device TEXT NOT NULL PRIMARY KEY, since REAL NOT NULL) WITHOUT ROWID;
+CREATE TABLE IF NOT EXISTS hour (row INTEGER NOT NULL PRIMARY KEY CHECK (row = 1), left REAL NOT NULL,
+    at REAL NOT NULL)"""
 KEPT_DAYS = 7       # a device is kept for so many days
 COUNTED_DAYS = 800  # and how many vouchers there were on a day
+KNOWN = 86_400      # a device is known for so many seconds
 
 
 @dataclass(frozen=True)
@@ -63,10 +69,33 @@ class Record:
         back."""
         return self.count("SELECT count(*) FROM free WHERE day >= ?", str(day))
 
-    def begin_gift(self, gift: Gift) -> None:
-        """Keeps a free voucher before it is issued."""
-        self.do("INSERT OR IGNORE INTO free (device, day, plan) VALUES (?, ?, ?)", gift.device,
-                str(gift.day), gift.plan)
+    def budget(self, most: int, now: float) -> Budget:
+        """What is left of the hour's free vouchers. Where the clock was set back they come back from now
+        on."""
+        with self.opened() as link:
+            left, at = link.execute("SELECT left, at FROM hour").fetchone() or (most, now)
+            if at > now:
+                link.execute("UPDATE hour SET at = ?", (now,))
+        return Budget(most, left, at).later(now)
+
+    def known_since(self, device: str, now: float) -> float:
+        """Since when a device is known, which is from now on where it was not. By a clock that was set back
+        it was not."""
+        is_recent = "since BETWEEN ? AND ?"
+        with self.opened() as link:
+            row = link.execute(f"SELECT since FROM known WHERE device = ? AND {is_recent}",
+                               (device, now - KNOWN, now)).fetchone()
+            if row is None:
+                link.execute(f"DELETE FROM known WHERE NOT {is_recent}", (now - KNOWN, now))
+                link.execute("INSERT OR IGNORE INTO known VALUES (?, ?)", (device, now))
+        return float(row[0]) if row else now
+
+    def begin_gift(self, gift: Gift, budget: Budget) -> None:
+        """Keeps a free voucher before it is issued, and what it leaves of the hour's."""
+        with self.opened() as link:
+            link.execute("INSERT OR IGNORE INTO free (device, day, plan) VALUES (?, ?, ?)",
+                         (gift.device, str(gift.day), gift.plan))
+            link.execute("INSERT OR REPLACE INTO hour VALUES (1, ?, ?)", (budget.left, budget.at))
         self.purge(gift.day)
 
     def count_gift(self, gift: Gift, today: datetime.date) -> None:

@@ -2,6 +2,7 @@
 
 from __future__ import annotations
 
+import math
 from dataclasses import dataclass
 from typing import Any
 
@@ -16,11 +17,14 @@ DONE = "done"
 NO_ANSWER, BUSY = "no_answer", "busy"
 HAD = guest_words("This device has had its free time for today.")
 NONE_LEFT = guest_words("All free time of today is given out. Please ask at the counter.")
+WAIT = guest_words("A lot of free time was given out in the last hour. Your device can have it from "
+                   "%(time)s on. Please open this page again then.")
 AGAIN = guest_words("We got no answer. Please press the button again: it counts once.")
 # What portal-give refuses, as a guest reads it.
 REFUSALS = {refusal.word: refusal for refusal in (
     Refusal(0, "had", 409, "", "", HAD),
     Refusal(0, "none_left", 409, "", "", NONE_LEFT),
+    Refusal(0, "wait", 409, "", "", WAIT),
     Refusal(0, "off", 409, "", "", guest_words("There is no free time here now. Please ask at the counter.")),
     Refusal(0, "not_open", 409, "", "", guest_words(
         "That session of this device is over already. Nothing was done.")),
@@ -35,6 +39,11 @@ REFUSALS = {refusal.word: refusal for refusal in (
 def refusal_of(word: str) -> Refusal:
     """The refusal of a word of portal-give."""
     return REFUSALS.get(word) or refusals.of_word(word)
+
+
+def begin_of(reply: dict[str, Any], language: Language) -> dict[str, str]:
+    """The value of a message that says from when on: the minute at whose begin that is so."""
+    return {"time": language.until(math.ceil(reply["begin"] / 60) * 60)} if "begin" in reply else {}
 
 
 @dataclass(frozen=True)
@@ -58,10 +67,10 @@ class Gifts:
         """What the device can have for nothing now; nothing where the venue gives nothing, or the part does
         not say so."""
         reply = self.ask("look", address, device)
-        reason = {"had": HAD, "none_left": NONE_LEFT}.get(reply.get("free", ""))
+        reason = {"had": HAD, "none_left": NONE_LEFT, "wait": WAIT}.get(reply.get("free", ""))
         if reply["answer"] == DONE and reply.get("free") == "yes":
             return Offer(worth({"seconds": reply["seconds"], "bytes": reply["bytes"], "uses": 1}, language))
-        return Offer(why_not=language.say(reason)) if reason else None
+        return Offer(why_not=language.say(reason, **begin_of(reply, language))) if reason else None
 
     def session(self, address: str, device: str) -> int:
         """The number of the device's open session; 0 where the part does not say it."""

@@ -14,7 +14,7 @@ import flask
 
 from portal_field.guests import texts
 from portal_field.guests.agreed import Agreed
-from portal_field.guests.gifts import BUSY, DONE, NO_ANSWER, Gifts, Offer, refusal_of
+from portal_field.guests.gifts import BUSY, DONE, NO_ANSWER, Gifts, Offer, begin_of, refusal_of
 from portal_field.guests.left import Left, left_of
 from portal_field.guests.prices import prices
 from portal_field.lib import refusals, web
@@ -296,11 +296,12 @@ class Visit:
         gifts = self.front.gifts
         return gifts.ask(act, self.place, device, session) if gifts else {"answer": "off"}
 
-    def words_of(self, word: str) -> str:
+    def words_of(self, reply: dict[str, Any]) -> str:
         """What a guest reads of a refusal of portal-give, or of what the server waits for."""
-        why = self.front.silence()
-        is_known = word == NO_ANSWER and why != NO_DESK
-        return self.language.say(why) if is_known else refusal_text(refusal_of(word), self.language)
+        word, why = str(reply["answer"]), self.front.silence()
+        if word == NO_ANSWER and why != NO_DESK:
+            return self.language.say(why)
+        return refusal_text(refusal_of(word), self.language, **begin_of(reply, self.language))
 
     def free(self, device: str) -> flask.Response:
         """The answer to the button of free minutes. Who is online already has what it gives."""
@@ -310,7 +311,7 @@ class Visit:
         if word == "online":
             return self.in_language(flask.make_response(flask.redirect(self.address(), 303)))
         self.front.counts.add(word)
-        return self.page(refusal_of(word).status, self.words_of(word), wrong="offer")
+        return self.page(refusal_of(word).status, self.words_of(reply), wrong="offer")
 
     def question(self, status: int = 200, bad: str = "", session: int = 0) -> flask.Response:
         """Asks whether the session is to end, and says what is lost by it; once more where something is bad.
@@ -330,12 +331,12 @@ class Visit:
             session = self.form.whole("session")
         except BadForm:
             return self.refuse(400, refusals.of_word("id_reused"), wrong="offer")
-        word = str(self.act("end", device, session)["answer"])
+        word = str((reply := self.act("end", device, session))["answer"])
         if word == DONE:
             self.front.knock()
             return self.in_language(flask.make_response(flask.redirect(self.address(ended="1"), 303)))
         self.front.counts.add(word)
-        bad, status = self.words_of(word), refusal_of(word).status
+        bad, status = self.words_of(reply), refusal_of(word).status
         again = word in (NO_ANSWER, BUSY, "no_record")
         return self.question(status, bad, session) if again else self.page(status, bad, wrong="offer")
 

@@ -27,7 +27,7 @@ def fault_of_code(code: str, language: Language) -> str:
     return language.say(FEW if len(code) < LONG else MANY, count=language.number(len(code)))
 
 
-def refusal_text(refusal: Refusal, language: Language, code: str = "") -> str:
-    """A refusal, of this plain code, as a guest reads it."""
+def refusal_text(refusal: Refusal, language: Language, code: str = "", **values: str) -> str:
+    """A refusal, of this plain code or with these values, as a guest reads it."""
     text = fault_of_code(code, language) if refusal.word == "bad_code" else ""
-    return text or language.say(refusal.for_guest, word=refusal.word)
+    return text or language.say(refusal.for_guest, word=refusal.word, **values)
