@@ -21,7 +21,6 @@ from __future__ import annotations
 
 import argparse
 import hashlib
-import json
 import os
 import pathlib
 import shutil
@@ -36,6 +35,8 @@ from portal_field.doctor.certificates import certificate
 from portal_field.doctor.findings import Machine, State, findings_of
 from portal_field.doctor.network import is_on_every_address
 from portal_field.doctor.prices import plans
+from portal_field.doctor.running import NOTES
+from portal_field.lib.machine_time import Notes
 from portal_field.settings import accounts, clerk_account
 from portal_field.settings.accounts import fault_of_name
 from portal_field.settings.maker import Maker, are_files_good, examine, fault_of_settings, print_findings
@@ -58,7 +59,6 @@ COUNTER_NGINX, COUNTER_CONF = "portal-counter-nginx.service", "/etc/portal/count
 RULES, DNSMASQ = pathlib.Path("/etc/portal/rules.nft"), pathlib.Path("/etc/dnsmasq.d/portal.conf")
 # as Debian's unit has it, beside /etc/dnsmasq.conf
 DNSMASQ_READS = "/etc/dnsmasq.d,.dpkg-dist,.dpkg-old,.dpkg-new"
-STATE = pathlib.Path("/run/portal-clock/state")     # what the server says that it does
 SECRET = 0o640          # field.toml: it may have the password of the Wi-Fi
 DEFAULT_SITE = pathlib.Path("/etc/nginx/sites-enabled/default")
 DISABLED = ETC / "nginx-default-site"       # says that set-up disabled it: a removal enables it again
@@ -333,13 +333,10 @@ def serve_pages(again: bool, keeper: Keeper) -> None:
 def server_waits() -> str:
     """Why the server does not serve, by its own word, for which it has some seconds; nothing where it
     serves."""
-    state: dict[str, str] = {}
     for _ in range(100):
-        try:
-            state = json.loads(STATE.read_text())
+        if state := Notes(NOTES).read("state"):     # what the server says that it does
             break
-        except (OSError, ValueError):
-            time.sleep(0.1)
+        time.sleep(0.1)
     return "" if state.get("is") == "serves" else state.get("why", "it does not say why")
 
 

@@ -332,7 +332,7 @@ class Snapshots(Case):
             if words[0] == "mount":
                 self.addCleanup(lambda: subprocess.run(["umount", "--lazy", place / "there"], check=False))
             subprocess.run([str(word) for word in words], check=True, capture_output=True)
-        self.data = place / "there/data"
+        self.data, self.place = place / "there/data", place / "there/.data.snapshot"
 
     def test_a_snapshot_needs_no_freeze_and_holds_what_was_answered(self) -> None:
         with DeskProcess(self.data / "book.db") as desk:
@@ -349,7 +349,7 @@ class Snapshots(Case):
                     done = self.run_it("portal-backup", "--portal", PORTAL, "--check", desk.settings, desk.book,
                                        desk.folder / "copies", folder=desk.folder)
                     self.assertEqual((done.returncode, done.stderr), (0, ""))
-                    self.assertFalse((self.data / ".snapshot").exists())
+                    self.assertFalse(self.place.exists())
                     sells.holds(pathlib.Path(done.stdout.strip()), before)
             finally:
                 stop.set()
@@ -358,14 +358,24 @@ class Snapshots(Case):
 
     def test_a_snapshot_that_a_killed_backup_left_is_replaced(self) -> None:
         with DeskProcess(self.data / "book.db") as desk:
-            subprocess.run(["btrfs", "subvolume", "snapshot", "-r", self.data, self.data / ".snapshot"], check=True,
-                           capture_output=True)
+            subprocess.run(["btrfs", "subvolume", "snapshot", "-r", self.data, self.place], check=True, capture_output=True)
             desk.load()
             desk.issue_codes("hour", "b1")
             systemctl(desk.folder, "active")
             done = self.run_it("portal-backup", desk.book, desk.folder / "copies", folder=desk.folder)
             self.assertEqual((done.returncode, done.stderr), (0, ""))
             Copies().holds(pathlib.Path(done.stdout.strip()), ["b1"])
+
+    def test_a_snapshot_that_the_server_could_exchange_is_not_deleted(self) -> None:
+        other = self.data.with_name("other")
+        subprocess.run(["btrfs", "subvolume", "create", other], check=True, capture_output=True)
+        with DeskProcess(self.data / "book.db") as desk:
+            (self.data / ".snapshot").symlink_to(other)
+            desk.load()
+            systemctl(desk.folder, "active")
+            done = self.run_it("portal-backup", desk.book, desk.folder / "copies", folder=desk.folder)
+        self.assertTrue(other.exists())
+        self.assertEqual((done.returncode, done.stderr), (0, ""))
 
 
 @needs("procps")

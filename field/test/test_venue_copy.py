@@ -117,10 +117,13 @@ class Case(unittest.TestCase):
 
     def restore(self, copy: pathlib.Path, key: pathlib.Path | None = None) -> list[str]:
         """Restores onto the machine. Users of the package are not on this one."""
-        with tempfile.TemporaryDirectory(dir=self.scratch) as scratch, mock.patch("shutil.chown") as chown:
-            lines = venue_restore.restore_venue(copy, key, shlex.split(PORTAL), pathlib.Path(scratch), self.machine)
-        self.owners = {pathlib.Path(call.args[0]).name: call.args[1] for call in chown.call_args_list}
-        return lines
+        self.owners: dict[str, str] = {}
+
+        def chown(path: object, user: str, group: str) -> None:
+            self.owners[pathlib.Path(str(path)).resolve().name] = user
+
+        with tempfile.TemporaryDirectory(dir=self.scratch) as scratch, mock.patch("shutil.chown", chown):
+            return venue_restore.restore_venue(copy, key, shlex.split(PORTAL), pathlib.Path(scratch), self.machine)
 
 
 @needs("procps")
@@ -140,7 +143,7 @@ class Whole(Case):
         self.assertEqual((self.machine / "etc/portal/clerks.toml").read_text(), "[anna]\n")
         link = self.machine / "etc/letsencrypt/live/cert.pem"
         self.assertEqual((link.is_symlink(), link.read_text()), (True, "a certificate\n"))
-        self.assertEqual(self.owners.get("given.db"), "portal-give")
+        self.assertEqual(self.owners.get("portal-give"), "portal-give")
         with DeskProcess(self.machine / "var/lib/portal/book.db") as again:
             self.assertIn("sold", again.voucher(self.code))
 

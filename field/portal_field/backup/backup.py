@@ -99,11 +99,11 @@ def held_still(pid: int | None, still: bool, database: pathlib.Path, unit: str =
 
 
 def snapshots_work(folder: pathlib.Path) -> bool:
-    """Whether the folder is a btrfs subvolume of its own, and this process may make and delete a snapshot of
-    it."""
-    kind = subprocess.run(["stat", "--file-system", "--format=%T", folder], capture_output=True,
-                          text=True).stdout
-    if kind != "btrfs\n" or folder.stat().st_ino != TOP_OF_SUBVOLUME or not shutil.which("btrfs"):
+    """Whether the folder is a btrfs subvolume of its own, and this process may make a snapshot of it beside
+    it, and delete that."""
+    kinds = subprocess.run(["stat", "--file-system", "--format=%T", folder, folder.parent],
+                           capture_output=True, text=True).stdout
+    if kinds != "btrfs\nbtrfs\n" or folder.stat().st_ino != TOP_OF_SUBVOLUME or not shutil.which("btrfs"):
         return False
     rights = re.search(r"CapEff:\s*([0-9a-f]+)", pathlib.Path("/proc/self/status").read_text())
     return rights is not None and int(rights[1], 16) & FOWNER_AND_SYS_ADMIN == FOWNER_AND_SYS_ADMIN
@@ -116,8 +116,9 @@ def btrfs(*words: object) -> None:
 
 @contextlib.contextmanager
 def snapshot(database: pathlib.Path) -> Iterator[pathlib.Path]:
-    """The database in a read-only snapshot of its folder, while the server writes on."""
-    place = database.parent / ".snapshot"
+    """The database in a read-only snapshot of its folder, while the server writes on. It is beside that
+    folder, where the server cannot put a link to another one."""
+    place = database.parent.with_name(f".{database.parent.name}.snapshot")
     if place.exists():          # by a backup that was killed
         btrfs("delete", place)
     btrfs("snapshot", "-r", database.parent, place)

@@ -1,5 +1,8 @@
 """What portal-backup and portal-restore share: one file out of a database and its log, and what is checked of
-it."""
+it.
+
+    python3 -m portal_field.backup.copies DATABASE GOAL     copies both files as they are, for the package
+"""
 
 from __future__ import annotations
 
@@ -14,6 +17,8 @@ import subprocess
 import sys
 import urllib.parse
 from collections.abc import Iterator
+
+from portal_field.lib.owned_files import NoPlainFile, held, number_of
 
 UNIT = "portal.service"
 MIB = 1 << 20
@@ -64,7 +69,7 @@ def server_state(unit: str = UNIT) -> str:
 def nobody_has_it_open(database: pathlib.Path) -> Iterator[None]:
     """Keeps everybody from opening the database inside: a server that is started meanwhile ends, and systemd
     starts it again. InUse: another process has it open."""
-    with open(database, "rb") as file:
+    with held(database) as address, open(address, "rb") as file:
         try:
             fcntl.lockf(file, fcntl.LOCK_SH | fcntl.LOCK_NB, SIZE, SHARED)
         except BlockingIOError as fault:
@@ -78,15 +83,17 @@ def copy_both(database: pathlib.Path, goal: pathlib.Path) -> None:
     if not database.exists():
         raise BadCopy(f"there is no file {database}")
     for end in ENDS:
-        if os.path.exists(f"{database}{end}"):
-            copy_file(f"{database}{end}", f"{goal}{end}")
+        if os.path.lexists(f"{database}{end}"):
+            copy_file(pathlib.Path(f"{database}{end}"), f"{goal}{end}")
 
 
-def copy_file(source: str, goal: str) -> None:
+def copy_file(source: pathlib.Path, goal: str) -> None:
     """Copies a file, with blocks in common where the file system can. NotCopied: in one sentence why not."""
-    words = ["cp", "--reflink=auto", "--preserve=timestamps", source, goal]
     env = {**os.environ, "LC_ALL": "C"}
-    done = subprocess.run(words, capture_output=True, text=True, timeout=120, env=env)
+    with held(source) as address:
+        words = ["cp", "--reflink=auto", "--preserve=timestamps", address, goal]
+        done = subprocess.run(words, capture_output=True, text=True, timeout=120, env=env,
+                              pass_fds=[number_of(address)])
     if done.returncode != 0:
         why = done.stderr.strip().rpartition(": ")[2] or f"cp ended with status {done.returncode}"
         folder = next(path for path in pathlib.Path(goal).parents if not path.name.startswith("."))
@@ -123,6 +130,10 @@ def read_only(path: pathlib.Path) -> sqlite3.Connection:
 
 def copy_open(database: pathlib.Path, goal: pathlib.Path) -> None:
     """Copies a database that others write to, at one moment between two of their transactions."""
+    for end in ("", "-wal", "-shm", "-journal"):
+        if os.path.lexists(f"{database}{end}"):
+            with held(pathlib.Path(f"{database}{end}")):
+                pass
     try:
         address = f"file:{urllib.parse.quote(str(database))}?mode=ro"
         with contextlib.closing(sqlite3.connect(address, uri=True, timeout=30)) as base, \
@@ -196,3 +207,23 @@ def to_disk(*paths: pathlib.Path) -> None:
             os.fsync(handle)
         finally:
             os.close(handle)
+
+
+def main() -> int:
+    """Copies a database that no server has open; 1 where that cannot be done. One that is no plain file is
+    none that a server goes on with: that is said, and hinders no upgrade."""
+    database, goal = map(pathlib.Path, sys.argv[1:])
+    try:
+        copy_both(database, goal)
+    except NoPlainFile as fault:
+        print(f"portal: {words_of(fault)}; no copy of the database is made", file=sys.stderr)
+        for end in ENDS:
+            pathlib.Path(f"{goal}{end}").unlink(missing_ok=True)
+    except (BadCopy, OSError, subprocess.SubprocessError) as fault:
+        print("portal:", words_of(fault), file=sys.stderr)
+        return 1
+    return 0
+
+
+if __name__ == "__main__":
+    sys.exit(main())

@@ -33,26 +33,41 @@ from collections.abc import Iterator
 
 from portal_field.backup.copies import (
     UNIT, BadCopy, InUse, ask_portal, check_by_portal, copy_both, fold, head_of, look, nobody_has_it_open,
-    server_state, sum_of, to_disk, words_of)
+    server_state, sum_of, words_of)
 from portal_field.backup.undone_entries import undone_entries, write_list
 from portal_field.backup.venue_copy import BEGIN, copies_in
 from portal_field.backup.venue_restore import check, restore_venue, unpack
 from portal_field.lib.nearest import with_nearest
+from portal_field.lib.owned_files import is_plain, names_to_disk, opened_folder, own_folder, put
 from portal_field.venues.places import Places
 
 COPIES, COPIES_OF_VENUE = "/var/backups/portal", "/var/backups/portal-whole"
 ANOTHER = f"take another one: `ls {COPIES} {COPIES_OF_VENUE}`"
+SCRATCH = ".restore-"       # begins the names of folders that a restore works in
 FLUSH = "flush set inet portal alive; flush set inet portal up; flush set netdev portal down"
 
 
 @contextlib.contextmanager
 def server_stopped(database: pathlib.Path, unit: str = UNIT) -> Iterator[None]:
     """InUse: the server runs, or another process has the database open; nobody opens it inside. `activating`
-    is a server that systemd starts again each second."""
+    is a server that systemd starts again each second. What is no plain file is no database that a server
+    has."""
     if server_state(unit) not in ("", "inactive", "failed"):
         raise InUse(f"stop {unit} first")
-    with nobody_has_it_open(database) if database.exists() else contextlib.nullcontext():
+    with nobody_has_it_open(database) if is_plain(database) else contextlib.nullcontext():
         yield
+
+
+@contextlib.contextmanager
+def scratch_folder(folder: pathlib.Path) -> Iterator[pathlib.Path]:
+    """A folder that this user alone changes: in that of the database, or where that is another user's in
+    /var/tmp."""
+    place = folder if folder.stat().st_uid == os.geteuid() else pathlib.Path("/var/tmp")
+    for rest in (*folder.glob(SCRATCH + "*"), *place.glob(SCRATCH + "*")):      # by a restore that was killed
+        if rest.lstat().st_uid == os.geteuid():
+            shutil.rmtree(rest, ignore_errors=True)
+    with tempfile.TemporaryDirectory(prefix=SCRATCH, dir=place) as scratch:
+        yield pathlib.Path(scratch)
 
 
 def scratch_copy(args: argparse.Namespace, scratch: pathlib.Path) -> pathlib.Path:
@@ -60,7 +75,7 @@ def scratch_copy(args: argparse.Namespace, scratch: pathlib.Path) -> pathlib.Pat
     source = args.file / "book.db" if args.file.is_dir() else args.file
     sums = pathlib.Path(f"{source}.sha256")
     one = scratch / "restored.db"
-    copy_both(source, one)
+    copy_both(source.resolve(), one)        # a link that somebody names counts
     if sums.exists() and sum_of(one) != sums.read_text().split()[0]:
         raise BadCopy(f"its SHA-256 is not that of {sums.name}")
     fold(one)
@@ -76,26 +91,24 @@ def keep_what_is_there(database: pathlib.Path) -> pathlib.Path:
     """Gives the database's files a second name in a folder of their own, which needs no room on a disk that
     is full."""
     aside = pathlib.Path(f"{database}.before-{datetime.datetime.now(datetime.UTC):%Y%m%dT%H%M%S.%fZ}")
-    aside.mkdir(mode=0o700)
-    for end in ("", "-wal", "-shm"):
-        if os.path.exists(f"{database}{end}"):
-            os.link(f"{database}{end}", aside / f"{database.name}{end}")
-    to_disk(aside, aside.parent)
+    with opened_folder(database.parent) as folder:
+        os.mkdir(aside.name, 0o700, dir_fd=folder)
+        with own_folder(aside) as kept:
+            for name in (f"{database.name}{end}" for end in ("", "-wal", "-shm")):
+                with contextlib.suppress(FileNotFoundError):
+                    os.link(name, name, src_dir_fd=folder, dst_dir_fd=kept, follow_symlinks=False)
+            names_to_disk(kept)
+        names_to_disk(folder)
     return aside
 
 
 def replace(database: pathlib.Path, one: pathlib.Path) -> None:
     """Puts a copy in the database's place; it belongs to whom the folder belongs to."""
-    owner = database.parent.stat()
-    os.chown(one, owner.st_uid, owner.st_gid)
-    to_disk(one)
-    for end in ("-wal", "-shm"):        # the old log over the new database would damage it
-        pathlib.Path(f"{database}{end}").unlink(missing_ok=True)
-    one.rename(database)
-    mark, head = database.with_name("schema"), head_of(database)
-    if mark.exists() and head:          # the package compares it with what the program knows
-        mark.write_text(f"{head[0]}\n")
-    to_disk(database.parent)
+    with open(one, "rb") as file:       # the old log over the new database would damage it
+        put(database, file, f"{database.name}-wal", f"{database.name}-shm")
+    mark, head = database.with_name("schema"), head_of(one)
+    if os.path.lexists(mark) and head:  # the package compares it with what the program knows
+        put(mark, f"{head[0]}\n".encode())
 
 
 def drop_counts() -> None:
@@ -114,7 +127,7 @@ def use_zone(settings: pathlib.Path) -> None:
 
 def list_what_is_undone(args: argparse.Namespace, one: pathlib.Path, aside: pathlib.Path) -> list[str]:
     """Writes the list of what the copy undoes beside what it replaces; the lines to print."""
-    if not any(aside.iterdir()):
+    if not os.listdir(aside):
         return []
     try:
         use_zone(args.settings)
@@ -129,15 +142,11 @@ def list_what_is_undone(args: argparse.Namespace, one: pathlib.Path, aside: path
 
 def restore(args: argparse.Namespace) -> None:
     """Puts a checked copy in the database's place, and prints what that undid."""
-    folder = args.database.parent
-    with server_stopped(args.database, args.unit):
-        for rest in folder.glob(".restore-*"):      # by a restore that was killed
-            shutil.rmtree(rest, ignore_errors=True)
-        with tempfile.TemporaryDirectory(prefix=".restore-", dir=folder) as scratch:
-            one = scratch_copy(args, pathlib.Path(scratch))
-            aside = keep_what_is_there(args.database)
-            lines = list_what_is_undone(args, one, aside)
-            replace(args.database, one)
+    with server_stopped(args.database, args.unit), scratch_folder(args.database.parent) as scratch:
+        one = scratch_copy(args, scratch)
+        aside = keep_what_is_there(args.database)
+        lines = list_what_is_undone(args, one, aside)
+        replace(args.database, one)
     if args.unit == UNIT:
         drop_counts()
     print(f"restored; what was there before is in {aside}", *lines, sep="\n")
@@ -178,8 +187,8 @@ def become_venue(args: argparse.Namespace) -> None:
     """Makes this machine the venue of a whole copy."""
     if os.geteuid() != 0:
         raise InUse("it needs root")
-    with tempfile.TemporaryDirectory(dir=args.database.parent, prefix=".restore-") as scratch:
-        print(*restore_venue(args.file, args.key, shlex.split(args.portal), pathlib.Path(scratch)), sep="\n")
+    with scratch_folder(args.database.parent) as scratch:
+        print(*restore_venue(args.file, args.key, shlex.split(args.portal), scratch), sep="\n")
 
 
 def newest(folder: pathlib.Path, venue: bool) -> pathlib.Path:

@@ -17,7 +17,8 @@ import time
 from collections.abc import Iterator
 from dataclasses import dataclass
 
-from portal_field.backup.copies import BadCopy, address_of, copy_both, fold, head_of, read_only, to_disk
+from portal_field.backup.copies import BadCopy, address_of, copy_both, fold, head_of, read_only
+from portal_field.lib.owned_files import names_to_disk, own_folder
 
 VERSIONS = (1, 2, 3, 4, 5, 6)   # of the schema; the columns that are read here are the same in all of them
 FILE_NAME = "undone.csv"
@@ -133,18 +134,20 @@ def undone_entries(database: pathlib.Path, copy: pathlib.Path, scratch: pathlib.
 def write_list(undone: UndoneEntries, folder: pathlib.Path) -> pathlib.Path:
     """Writes the list as CSV, for its owner alone, since codes are worth money. Its path. Times are those of
     the process's zone."""
-    path = folder / FILE_NAME
-    handle = os.open(path, os.O_WRONLY | os.O_CREAT | os.O_EXCL, 0o600)
-    try:
-        with open(handle, "w", newline="") as file:
-            lines = csv.writer(file)
-            lines.writerow(HEAD)
-            for entry in undone.entries:
-                time_text = time.strftime("%Y-%m-%d %H:%M:%S", time.localtime(entry.moment))
-                lines.writerow((entry.what, time_text, entry.code, entry.batch, entry.plan, entry.uses or "",
-                                decimal(entry.amount), entry.in_copy))
-        to_disk(path, folder)
-    except OSError:
-        path.unlink()
-        raise
-    return path
+    with own_folder(folder) as number:
+        handle = os.open(FILE_NAME, os.O_WRONLY | os.O_CREAT | os.O_EXCL, 0o600, dir_fd=number)
+        try:
+            with open(handle, "w", newline="") as file:
+                lines = csv.writer(file)
+                lines.writerow(HEAD)
+                for entry in undone.entries:
+                    time_text = time.strftime("%Y-%m-%d %H:%M:%S", time.localtime(entry.moment))
+                    lines.writerow((entry.what, time_text, entry.code, entry.batch, entry.plan,
+                                    entry.uses or "", decimal(entry.amount), entry.in_copy))
+                file.flush()
+                os.fsync(handle)
+            names_to_disk(number)
+        except OSError:
+            os.unlink(FILE_NAME, dir_fd=number)
+            raise
+    return folder / FILE_NAME

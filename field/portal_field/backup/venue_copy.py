@@ -20,6 +20,7 @@ from dataclasses import dataclass
 
 from portal_field.backup.copies import BadCopy, copy_open, look, read_only
 from portal_field.backup.venue_state import COPIES, DATABASE, DATABASES, kept_below
+from portal_field.lib.owned_files import held
 
 ETC, STATE = "etc/portal", "var/lib"        # below the root
 SETTINGS = "etc/portal/backup.toml"
@@ -64,18 +65,20 @@ def add_text(tar: tarfile.TarFile, name: str, text: bytes) -> None:
 def copy_state(path: pathlib.Path, goal: pathlib.Path) -> None:
     """Copies a file that a part keeps, a database at one moment between two of its transactions. BadCopy: it
     is no whole database."""
-    with open(path, "rb") as file:
-        is_database = file.read(len(SQLITE)) == SQLITE
-    if not is_database and path.suffix != ".db":
-        shutil.copyfile(path, goal)
-        return
+    with held(path) as address:
+        with open(address, "rb") as file:
+            is_database = file.read(len(SQLITE)) == SQLITE
+        if not is_database and path.suffix != ".db":
+            shutil.copyfile(address, goal)
+            return
     try:
         copy_open(path, goal)
     except BadCopy:     # one that keeps a log cannot be opened where nobody has it open, and all is read-only
         if pathlib.Path(f"{path}-wal").exists():
             raise
         read_only(path).close()
-        shutil.copyfile(path, goal)
+        with held(path) as address:
+            shutil.copyfile(address, goal)
     look(goal)
 
 
@@ -101,7 +104,7 @@ def add_state(tar: tarfile.TarFile, root: pathlib.Path, database: pathlib.Path,
             copy_state(newest_copy(root, path) if by_name else path, one)
         except (BadCopy, OSError) as fault:
             raise BadCopy(f"{path} is not copied: {fault}") from fault
-        one.chmod(path.stat().st_mode & 0o777)
+        one.chmod(path.lstat().st_mode & 0o777)
         tar.add(one, str(path.relative_to(root)))
         one.unlink()
 

@@ -15,9 +15,10 @@ import tomllib
 from dataclasses import dataclass
 
 from portal_field.backup.copies import (
-    BadCopy, InUse, check_by_portal, copy_both, fold, head_of, look, read_only, say_step, sum_of, to_disk)
+    BadCopy, InUse, check_by_portal, copy_both, fold, head_of, look, read_only, say_step, sum_of)
 from portal_field.backup.venue_copy import ETC, FORMAT, LABEL, SEALED, STATE
 from portal_field.backup.venue_state import DATABASE, DATABASES, kept_below
+from portal_field.lib.owned_files import is_plain, opened_folder, own_folder, put
 
 WITHOUT_IT = "To restore without it put its folder elsewhere"
 
@@ -154,7 +155,7 @@ def check_what_stays(venue: Venue, portal: list[str], root: pathlib.Path, scratc
     """BadCopy: a database that a purge kept here is damaged, or does not go on from that of the copy."""
     for database in databases_in(venue.folder):
         here, one = root / database.relative_to(venue.folder), scratch / "here.db"
-        if not here.exists():
+        if not is_plain(here):
             continue
         try:
             copy_both(here, one)
@@ -174,8 +175,10 @@ def make_folder(folder: pathlib.Path, user: str) -> None:
         if above.name == "portal-venues-counter":
             above.chmod(0o700)
             shutil.chown(above, user, user)
-    folder.mkdir(mode=0o700)
-    shutil.chown(folder, user, user)
+    with opened_folder(above) as number:
+        os.mkdir(folder.name, 0o700, dir_fd=number)
+        with own_folder(folder) as made:
+            shutil.chown(f"/proc/self/fd/{made}", user, user)
 
 
 def place_state(venue: Venue, root: pathlib.Path) -> list[str]:
@@ -183,17 +186,13 @@ def place_state(venue: Venue, root: pathlib.Path) -> list[str]:
     lines = list[str]()
     for user, path in sorted(kept_below(venue.folder / STATE), key=lambda kept: kept[1] == venue.database):
         goal = root / path.relative_to(venue.folder)
-        if goal.exists():
+        if is_plain(goal):
             lines.append(f"{goal} was there, and stays")
             continue
         if not goal.parent.exists():
             make_folder(goal.parent, user)
-        shutil.chown(path, user, user)
-        part = goal.with_name(f".{goal.name}.part")
-        subprocess.run(["cp", "--preserve=mode,ownership", path, part], check=True)
-        to_disk(part)
-        part.rename(goal)
-        to_disk(goal.parent)
+        with open(path, "rb") as file:
+            put(goal, file)
     return lines
 
 
@@ -228,10 +227,10 @@ def restore_venue(file: pathlib.Path, key: pathlib.Path | None, portal: list[str
     venue = unpack(file, key, scratch)
     check(venue, portal)
     check_what_stays(venue, portal, root, scratch)
-    has_database = (root / STATE / "portal" / DATABASE).exists()
+    has_database = is_plain(root / STATE / "portal" / DATABASE)
     lines = [*place_settings(venue, root), *place_state(venue, root)]
     if (head := head_of(venue.database)) and not has_database:
-        (root / STATE / "portal/schema").write_text(f"{head[0]}\n")
+        put(root / STATE / "portal/schema", f"{head[0]}\n".encode())
     by_name = [path.parent.name for path in sorted((root / STATE).glob(DATABASES))]
     more = [f"and the venues {', '.join(by_name)}, each as of its own newest copy: after portal-setup run "
             f"portal-venues apply"] if by_name else []

@@ -19,6 +19,7 @@ from portal_field.backup.copies import sum_of
 from portal_field.backup.venue_copy import copies_in
 from portal_field.doctor.findings import (
     WITHOUT_SETTINGS, CannotTell, Finding, Machine, good, passed_over, warning, wrong)
+from portal_field.lib.owned_files import read
 from portal_field.server.accepted_steps import FILE, MOST, read_record
 from portal_field.server.right_time import Unreadable, last_moment
 from portal_field.settings.venue import Field, toml_lines
@@ -270,8 +271,9 @@ def program(machine: Machine) -> Iterator[Finding]:
 def schema(machine: Machine, output: str) -> Iterator[Finding]:
     """Whether the program knows the schema version of the database, which the package keeps beside it."""
     mark, version = machine.path("/var/lib/portal/schema"), re.search(r"schema version (\d+)", output)
-    if version and readable(mark) and int(mark.read_text()) > int(version[1]):
-        yield wrong(f"the database has schema version {mark.read_text().strip()}, and this program knows "
+    held = int(read(mark)) if readable(mark) else 0
+    if version and held > int(version[1]):
+        yield wrong(f"the database has schema version {held}, and this program knows "
                     f"none after "
                     f"{version[1]}", "install the later program, or restore the copy of before the upgrade")
 

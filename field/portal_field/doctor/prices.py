@@ -10,6 +10,7 @@ from portal_field.doctor.base import readable
 from portal_field.doctor.findings import Finding, Machine, good, warning, wrong
 from portal_field.doctor.running import NOTES
 from portal_field.lib.machine_time import Notes
+from portal_field.lib.owned_files import read
 from portal_field.lib.plans import (
     RESTART, BadFile, advice, check_plans, compare, plans_in, read_goodwill, read_offers, read_taxes)
 from portal_field.settings.samples import is_sample, sum_of
@@ -85,7 +86,7 @@ def foresee_refusal(machine: Machine, data: bytes) -> tuple[str, list[str]]:
         return "bad_plans", [str(fault)]
     accepted = machine.path(f"{STATE}/{ACCEPTED}")
     is_loaded = accepted.exists() and readable(machine.path(machine.DATABASE))      # an owner may begin anew
-    differences = compare(plans_in(data), plans_in(accepted.read_bytes()) if is_loaded else {})
+    differences = compare(plans_in(data), plans_in(read(accepted)) if is_loaded else {})
     return "plan_differs" if differences else "", [str(one) for one in differences]
 
 

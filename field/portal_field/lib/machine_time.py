@@ -10,6 +10,8 @@ import threading
 import time
 from typing import Any
 
+from portal_field.lib.owned_files import read
+
 STEP = 60.0     # seconds; a clock that is set by less goes on as before: time services correct by seconds
 
 
@@ -44,7 +46,7 @@ class Notes:
     def read(self, name: str) -> dict[str, Any]:
         """The values of a note; nothing where there is no such note, or one that does not read."""
         try:
-            note = json.loads((self.folder / name).read_text())
+            note = json.loads(read(self.folder / name))
         except (OSError, ValueError):
             return {}
         return note if isinstance(note, dict) else {}
@@ -55,7 +57,8 @@ class Notes:
         mode = 0o644 if name in ("state", "offers") else 0o640
         # a form may be sent twice at once
         part = self.folder / f".{name}.{os.getpid()}-{threading.get_ident()}"
-        with os.fdopen(os.open(part, os.O_WRONLY | os.O_CREAT | os.O_TRUNC, mode), "w") as file:
+        part.unlink(missing_ok=True)
+        with os.fdopen(os.open(part, os.O_WRONLY | os.O_CREAT | os.O_EXCL, mode), "w") as file:
             os.fchmod(file.fileno(), mode)
             json.dump(values, file)
         part.replace(self.folder / name)

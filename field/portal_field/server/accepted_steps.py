@@ -16,6 +16,7 @@ from collections.abc import Callable
 from dataclasses import asdict, dataclass, field
 
 from portal_field.lib.machine_time import STEP, since_boot
+from portal_field.lib.owned_files import read
 
 DAY = 86_400
 FILE = "clock-steps.json"           # beside the database
@@ -54,7 +55,7 @@ class Record:
 def read_record(path: pathlib.Path) -> Record:
     """The record in a file; nothing was moved where there is no such file, or one that does not read."""
     try:
-        return Record(**json.loads(path.read_text()))
+        return Record(**json.loads(read(path)))
     except (OSError, ValueError, TypeError):
         return Record()
 

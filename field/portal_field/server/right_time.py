@@ -9,6 +9,7 @@ from __future__ import annotations
 
 import contextlib
 import ctypes
+import os
 import pathlib
 import shutil
 import sqlite3
@@ -18,6 +19,7 @@ from collections.abc import Callable
 from dataclasses import dataclass
 
 from portal_field.lib.machine_time import Notes, origin, was_set
+from portal_field.lib.owned_files import held
 from portal_field.server.accepted_steps import DAY, MOST, WITHIN, Steps
 
 # seconds before and after the last entry within which a time service is believed
@@ -53,8 +55,9 @@ def last_moment(database: pathlib.Path) -> int | None:
         with tempfile.TemporaryDirectory() as folder:
             copy = f"{folder}/copy.db"
             for end in ("", "-wal"):
-                if pathlib.Path(f"{database}{end}").exists():
-                    shutil.copyfile(f"{database}{end}", copy + end)
+                if os.path.lexists(f"{database}{end}"):
+                    with held(pathlib.Path(f"{database}{end}")) as address:
+                        shutil.copyfile(address, copy + end)
             with contextlib.closing(sqlite3.connect(copy)) as base:
                 if not base.execute("SELECT 1 FROM sqlite_master WHERE name = 'portal_head'").fetchone():
                     return None

@@ -1,0 +1,68 @@
+"""A folder of a service that an attacker controls, and what that can put under any name there."""
+
+from __future__ import annotations
+
+import contextlib
+import os
+import pathlib
+import signal
+import socket
+from collections.abc import Callable, Iterator
+
+NOBODY = 65534      # Debian's user and group of services that own nothing
+KEPT = "9: nobody but root changes this\n"
+KINDS: dict[str, Callable[[pathlib.Path, pathlib.Path], object]] = {
+    "link": lambda path, outside: path.symlink_to(outside),
+    "link to nothing": lambda path, outside: path.symlink_to(outside.with_name("nothing")),
+    "link to a device": lambda path, _: path.symlink_to("/dev/zero"),
+    "pipe": lambda path, _: os.mkfifo(path),
+    "socket": lambda path, _: bound(path)}
+
+
+def bound(path: pathlib.Path) -> None:
+    """A socket that nobody listens on."""
+    folder = os.open(path.parent, os.O_PATH)
+    with socket.socket(socket.AF_UNIX) as link:
+        link.bind(f"/proc/self/fd/{folder}/{path.name}")     # the path itself may be too long
+    os.close(folder)
+
+
+def service_folder(place: pathlib.Path, name: str = "service") -> pathlib.Path:
+    """A folder of another user than the one who runs the test; where that is not root, who cannot make one, a folder that every
+    user may change."""
+    folder = place / name
+    folder.mkdir(parents=True)
+    if os.geteuid() == 0:
+        os.chown(folder, NOBODY, NOBODY)
+        folder.chmod(0o700)
+    else:
+        folder.chmod(0o777)
+    return folder
+
+
+def outside_file(place: pathlib.Path) -> pathlib.Path:
+    """A file outside of the folder, which a link leads to."""
+    path = place / "outside.conf"
+    path.write_text(KEPT)
+    return path
+
+
+def plant(kind: str, path: pathlib.Path, outside: pathlib.Path) -> None:
+    """Puts something of a kind under a name, whatever is there."""
+    path.unlink(missing_ok=True)
+    KINDS[kind](path, outside)
+
+
+@contextlib.contextmanager
+def within(seconds: int) -> Iterator[None]:
+    """TimeoutError: what is inside stands still, as over a pipe that nobody writes to."""
+    def end(*_: object) -> None:
+        raise TimeoutError("it stands still")
+
+    before = signal.signal(signal.SIGALRM, end)
+    signal.alarm(seconds)
+    try:
+        yield
+    finally:
+        signal.alarm(0)
+        signal.signal(signal.SIGALRM, before)
