@@ -9,6 +9,7 @@ import pathlib
 import sqlite3
 
 import pytest
+from planted import KEPT, KINDS, outside_file, plant, within
 from schema_versions import make_database
 from tree import DEB, Done, output, run
 
@@ -175,6 +176,19 @@ def test_how_long_by_name(venue: Venue) -> None:
 def test_what_cannot_be_read(venue: Venue) -> None:
     venue.database(4).write_bytes(b"no database" * 99)
     assert "is not known: file is not a database" in taken(venue), "it is said, and left to the program"
+
+
+@pytest.mark.parametrize("kind", KINDS)
+@pytest.mark.parametrize("name", ("schema", "book.db", "book.db-wal"))
+def test_what_the_server_could_plant(venue: Venue, kind: str, name: str) -> None:
+    outside = outside_file(venue.room)
+    path = venue.database(4).with_name(name)
+    plant(kind, path, outside)
+    with within(60):
+        said = taken(venue)
+    is_database = name.startswith("book") and kind != "link to nothing"
+    assert not is_database or f"is not known: {path} is no plain file" in said, f"a {kind} is not read  [{said}]"
+    assert outside.read_text() == KEPT, "and nothing outside is changed"
 
 
 def test_no_database(venue: Venue) -> None:
