@@ -44,38 +44,46 @@ fn count_answered(requests: &[SentRequest], responses: &[Vec<u8>]) -> usize {
     count
 }
 
-/// Lives two rounds over new files. In both the whole day is sent, each request with its key, and in the first
-/// the disk is cut off at this point. Returns how many requests were answered in each round; none in one that
-/// opened no desk or was not lived.
-fn live_day(alloc: Global, day: &[SentRequest], limit: CrashPoint) -> Result<(usize, usize), Fail> {
+/// Lives two rounds over new files. In the first the whole day is sent, each request with its key, and the disk
+/// is cut off at this point. In the second the day is sent from this request on. Returns how many requests were
+/// answered in each round; none in one that opened no desk or was not lived.
+fn live_day(
+    alloc: Global,
+    day: &[SentRequest],
+    limit: CrashPoint,
+    from: usize,
+) -> Result<(usize, usize), Fail> {
     let routes = Routes::new(alloc)?;
+    let rest = day.get(from..).ok_or("past the day")?;
     let mut rounds = Vec::new(alloc);
     rounds.push(build_round(alloc, day)?)?;
-    rounds.push(build_round(alloc, day)?)?;
+    rounds.push(build_round(alloc, rest)?)?;
     let files = Image::new(alloc).crashing_files(alloc, limit)?;
     if !files.may_be_used() {
         return Err("the files may not be used".into());
     }
     let (lived, _) = live(alloc, files, Options::new(1), &routes, rounds.as_slice());
-    let answered = |place: usize| match lived.get(place) {
-        Some(Some(responses)) => count_answered(day, responses.as_slice()),
+    let answered = |place: usize, requests: &[SentRequest]| match lived.get(place) {
+        Some(Some(responses)) => count_answered(requests, responses.as_slice()),
         _ => 0,
     };
-    Ok((answered(0), answered(1)))
+    Ok((answered(0, day), answered(1, rest)))
 }
 
 /// Lives the day with a crash at every so many calls of the file, of which at least so many fall among the
-/// requests. What was answered before the crash is answered again, and the rest is answered then.
+/// requests. What was not answered before the crash is answered then, as on a day without one: what was
+/// answered is there.
 fn crash_lives(alloc: Global, rt: &impl Abort, part: Part, among: usize) -> Result<(), Fail> {
     let day = build_requests(alloc, COMMANDS, true).ok_or("no day")?;
     let mut cut: usize = 0;
     let mut cut_among: usize = 0;
     for calls in (0..MANY).step_by(STEP) {
         let limit = CrashPoint { part, calls };
-        let (first, second) = live_day(alloc, day.as_slice(), limit)?;
+        let (first, _) = live_day(alloc, day.as_slice(), limit, day.len())?;
+        let (again, then) = live_day(alloc, day.as_slice(), limit, first)?;
         assert!(rt;
-            second == day.len() || first == 0,
-            "{limit:?} {first} {second}"
+            again == first && (first == 0 || then == day.len().saturating_sub(first)),
+            "{limit:?} {first} {again} {then}"
         );
         if first == day.len() {
             assert!(rt;
