@@ -7,6 +7,7 @@ import os
 import pathlib
 import signal
 import socket
+import stat
 from collections.abc import Callable, Iterator
 
 NOBODY = 65534      # Debian's user and group of services that own nothing
@@ -14,7 +15,7 @@ KEPT = "9: nobody but root changes this\n"
 KINDS: dict[str, Callable[[pathlib.Path, pathlib.Path], object]] = {
     "link": lambda path, outside: path.symlink_to(outside),
     "link to nothing": lambda path, outside: path.symlink_to(outside.with_name("nothing")),
-    "link to a device": lambda path, _: path.symlink_to("/dev/zero"),
+    "link to a device": lambda path, outside: path.symlink_to(device(outside)),
     "pipe": lambda path, _: os.mkfifo(path),
     "socket": lambda path, _: bound(path)}
 
@@ -25,6 +26,17 @@ def bound(path: pathlib.Path) -> None:
     with socket.socket(socket.AF_UNIX) as link:
         link.bind(f"/proc/self/fd/{folder}/{path.name}")     # the path itself may be too long
     os.close(folder)
+
+
+def device(outside: pathlib.Path) -> pathlib.Path:
+    """A device that gives bytes without end. Root has one of its own beside that file: what goes wrong in a test is done to no device
+    of the machine."""
+    path = outside.with_name("zero")
+    if os.geteuid() != 0:
+        return pathlib.Path("/dev/zero")
+    if not path.exists():
+        os.mknod(path, stat.S_IFCHR | 0o666, os.makedev(1, 5))
+    return path
 
 
 def service_folder(place: pathlib.Path, name: str = "service") -> pathlib.Path:
