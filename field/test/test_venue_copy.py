@@ -156,7 +156,9 @@ class Whole(Case):
         copy = self.copy()
         Journal(path).add("anna", "x", [Act("sell", "s2", "done", "b1", "hour", 1, 300)], till)
         self.restore(copy)
-        again = Journal(self.machine / "var/lib/portal-counter/journal.db")
+        placed = self.machine / "var/lib/portal-counter/journal.db"
+        self.assertEqual(placed.stat().st_mode & 0o777, path.stat().st_mode & 0o777, "its group reads it as before")
+        again = Journal(placed)
         again.add("anna", "x", [Act("sell", "s3", "done", "b1", "hour", 1, 300)], till)
         with contextlib.closing(sqlite3.connect(again.path)) as base:
             numbers = base.execute("SELECT series, place FROM receipts ORDER BY number").fetchall()

@@ -192,7 +192,7 @@ def place_state(venue: Venue, root: pathlib.Path) -> list[str]:
         if not goal.parent.exists():
             make_folder(goal.parent, user)
         with open(path, "rb") as file:
-            put(goal, file)
+            put(goal, file, mode=path.stat().st_mode & 0o777)
     return lines
 
 

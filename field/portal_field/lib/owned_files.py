@@ -21,13 +21,13 @@ from typing import IO, Any
 MOST = 1 << 20      # bytes that are read of a file
 FOLDER = os.O_PATH | os.O_DIRECTORY | os.O_CLOEXEC
 FILE = os.O_PATH | os.O_CLOEXEC     # of a pipe or a device it opens nothing
-# In the folder: its name, and those of files that belong to the file of before. Nothing is written through
-# what is there, and whatever happens the old file or the new one is there as a whole.
+# In the folder: its name, its mode, and the names of files that belong to the file of before. Nothing is
+# written through what is there, and whatever happens the old file or the new one is there as a whole.
 PUT = '''umask 077
 rm -rf -- ".$1.part"
-dd of=".$1.part" conv=excl,fsync oflag=nofollow bs=1M status=none || exit
+dd of=".$1.part" conv=excl,fsync oflag=nofollow bs=1M status=none && chmod "$2" ".$1.part" || exit
 name=$1
-shift
+shift 2
 rm -rf -- "$@" && mv -fT -- ".$name.part" "$name" && sync .'''
 
 
@@ -116,13 +116,14 @@ def read(path: pathlib.Path) -> bytes:
         return file.read(MOST)
 
 
-def put(path: pathlib.Path, source: bytes | IO[bytes], *gone: str) -> None:
-    """Writes a file as the owner of its folder does, readable by that user alone. Files of the names `gone`
-    are removed from the folder just before it gets its name. OSError: it was not written."""
+def put(path: pathlib.Path, source: bytes | IO[bytes], *gone: str, mode: int = 0o600) -> None:
+    """Writes a file as the owner of its folder does, with a mode: readable by that user alone. Files of the
+    names `gone` are removed from the folder just before it gets its name. OSError: it was not written."""
     with opened_folder(path.parent) as folder:
         owner = os.fstat(folder)
         user = ["setpriv", f"--reuid={owner.st_uid}", f"--regid={owner.st_gid}", "--clear-groups", "--"]
-        words = [*(user if owner.st_uid != os.geteuid() else []), "sh", "-c", PUT, "sh", path.name, *gone]
+        words = [*(user if owner.st_uid != os.geteuid() else []), "sh", "-c", PUT, "sh", path.name,
+                 f"{mode:o}", *gone]
         given: dict[str, Any] = {"input": source} if isinstance(source, bytes) else {"stdin": source}
         done = subprocess.run(words, cwd=f"/proc/{os.getpid()}/fd/{folder}", stdout=subprocess.DEVNULL,
                               stderr=subprocess.PIPE, env={**os.environ, "LC_ALL": "C"}, **given)
