@@ -321,7 +321,7 @@ class OneProcess(OnAMachine):
         super().setUp()
         self.desks: dict[str, DeskProcess] = {}
         pages: dict[str, VenueCounter] = {}
-        for name, zone in (("north", "<+12>-12"), ("south", "<-11>11")):
+        for name, zone in (("north", "<+14>-14"), ("south", "<-12>12")):     # never of one day
             desk = self.enterContext(DeskProcess())
             desk.load()
             self.desks[name] = desk
@@ -419,7 +419,7 @@ class OneProcess(OnAMachine):
             page = browser.ask("/vouchers").text
             days[name] = page.partition('name="batch" ')[2].partition('value="b-')[2][:8]
         now = datetime.datetime.now(datetime.UTC)
-        self.assertEqual(days, {"north": f"{now + datetime.timedelta(hours=12):%Y%m%d}", "south": f"{now - datetime.timedelta(hours=11):%Y%m%d}"})
+        self.assertEqual(days, {"north": f"{now + datetime.timedelta(hours=14):%Y%m%d}", "south": f"{now - datetime.timedelta(hours=12):%Y%m%d}"})
 
     def test_a_venue_whose_desk_is_away_hinders_no_other(self) -> None:
         self.desks["north"].job.kill()
