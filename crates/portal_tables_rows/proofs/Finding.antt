@@ -1,7 +1,7 @@
 -- From the first row of a result to the value that is read.
 use Rattle.portal_tables_rows.proofs.Common.{◌≡◌, ℕ, List, map, filter, take, slice_get, Option, Some, None}
 use Rattle.portal_tables_rows.proofs.Common.{Result, is_eq, true, IfOk-weaker, IsPermutation, Schema, Shown}
-use Rattle.portal_tables_rows.proofs.Common.{IsPlain, understood, looks_weaker, Value, Row, column, value_cmp}
+use Rattle.portal_tables_rows.proofs.Common.{looks_weaker, Value, Row, column, value_cmp}
 use Rattle.portal_tables_rows.proofs.Common.{Ghosts, Held, state, number, Finds, FindsLast, IsSelection}
 use Rattle.portal_tables_rows.proofs.Common.{by_column, columns, has_key, finds_some, finds_none, finds_last}
 use Rattle.portal_tables_rows.proofs.Common.{finds_no_last, Contents, AreOwn, IsOfOwn, Holds, HasTables}
@@ -9,7 +9,9 @@ use Rattle.std.specs.Prelude.{MatchOption}
 use Rattle.portal_tables_rows.specs.declared.rows.RowError.{RowError}
 use Rattle.portal_tables_rows.specs.Selects.{ReadsOne, ReadsRow}
 use Rattle.portal_tables_sql.specs.Asks.{Asks}
-use Rattle.portal_tables_sql.proofs.AskLemmas.{plain_asks}
+use Rattle.portal_tables_sql.specs.Causes.{IsTaken}
+use Rattle.portal_tables_sql.proofs.Causes.{taken_asks}
+use Rattle.portal_tables_rows.specs.Foreign.{IsOwnRow}
 use Rattle.portal_tables_rows.proofs.Foreign.{of_first, of_last}
 
 -- what the first row gives, if it is read as a value with its cells
@@ -17,7 +19,7 @@ pub record Tells {T : Type 0} (cells : T → Row) (width : ℕ) (own : Row → T
     (Is : Option T → Type 0) (Own : Type 0) : Type 0 where
   pub some : (row : Row) (x : T) → slice_get rows 0 ≡ Some row → cells x ≡ columns width row → Is (Some x)
   pub none : slice_get rows 0 ≡ None → Is None
-  pub owns : Own → (row : Row) → slice_get rows 0 ≡ Some row → own (columns width row)
+  pub owns : Own → (row : Row) → slice_get rows 0 ≡ Some row → IsOwnRow own width row
 
 -- the same where more is known of the rows
 pub tells_of : {T : Type 0} {cells : T → Row} {width : ℕ} {own : Row → Type 0} {rows : List Row}
@@ -38,16 +40,17 @@ pub reads_one : {S T : Type 0} (g : Ghosts S) {old new : Held S} {cells : T → 
     {width : ℕ} {proper : T → Type 0} {own : Row → Type 0} (sql : List ℕ) (params : Row)
     {result : Result (Option T) RowError}
     {Is : Contents → Option T → Type 0} {Own : Contents → Type 0}
-    → ((schema : Schema) → HasTables schema → IsPlain (understood schema sql))
+    → ((schema : Schema) → HasTables schema → IsTaken sql params schema)
     → ((rows : List Row) → Shown sql params (state g old) (state g new) rows → (t : Contents)
     → Holds (state g old).now t → Tells cells width own rows (Is t) (Own t))
     → ReadsOne g cells width proper own sql params old new result → ReadsRow g old new result Is Own
-reads_one g sql params {result = result} plain tells one = record {
+reads_one g sql params {result = result} taken tells one = record {
   found = λ clean t h.
       IfOk-weaker result _ _ (λ found it. told (tells it.0 it.1 t h) found it.2) (one.rows clean);
   looks = looks_weaker (Asks sql) HasTables
-      (λ schema has. plain_asks sql schema (plain schema has)) result _ _ one.looks;
-  foreign = λ clean t h own. one.own clean (λ rows shown. (tells rows shown t h).owns own);
+      (λ schema has. taken_asks sql params schema (taken schema has)) result _ _ one.looks;
+  caused = λ clean t h own. one.caused clean (taken _ (h.places, h.tables_exist))
+      (λ rows shown. (tells rows shown t h).owns own);
 }
 
 module _ {P T K : Type 0} (cells : P → Row) (n : ℕ) (all : (p : P) → columns n (cells p) ≡ cells p)
@@ -65,7 +68,7 @@ module _ {P T K : Type 0} (cells : P → Row) (n : ℕ) (all : (p : P) → colum
         (finds_some cells at key k cell keyed same itself n all exact ps rows answer row (read x) got is);
     none = λ got. none (finds_none cells at key k cell keyed same itself n all exact ps rows answer got);
     owns = λ own row got.
-        of_first cells n all IsOwn ps own _ rows answer row got (λ p is_own is. (p, is_own, is));
+        of_first cells n all IsOwn ps own _ rows answer row got;
   }
 
   -- and the one with the greatest number, with ORDER BY DESC LIMIT 1
@@ -81,5 +84,5 @@ module _ {P T K : Type 0} (cells : P → Row) (n : ℕ) (all : (p : P) → colum
     none = λ got. none (finds_no_last cells at key k cell keyed same itself n all exact ps order number_of
         ordered sel rows answer one got);
     owns = λ own row got.
-        of_last cells n all IsOwn ps own _ order sel rows answer one row got (λ p is_own is. (p, is_own, is));
+        of_last cells n all IsOwn ps own _ order sel rows answer one row got;
   }

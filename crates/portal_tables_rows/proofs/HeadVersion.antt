@@ -32,7 +32,7 @@ use Rattle.portal_tables_rows.proofs.Asking.{IsIdle, understood_idle}
 pub layout_is_text : IsText schema_version_text
     (written.Select (select_of head_name (codes "layout" ∷ []) None [] None)) 0
 unfolding everything
-layout_is_text = record { parsed = _; read = refl; is = refl; timeless = refl; counted = refl }
+layout_is_text = record { parsed = _; read = refl; is = refl; timeless = refl; counted = refl; whole = refl }
 
 pub untimed : (schema : Schema)
     → timed schema [] (written.Select (select_of head_name (codes "layout" ∷ []) None [] None)) ≡ []
@@ -51,7 +51,7 @@ layout_idle = understood_idle schema_version_text
 
 -- if the head exists
 layout_means : (schema : Schema) (at tree : ℕ)
-    → TableExists schema at (head tree) → Means schema schema_version_text
+    → TableExists schema at (head tree) → Means schema schema_version_text 0
     (Select (record { lets = []; body = over tree [] (col 1 2 ∷ []) }) (codes "layout" ∷ []))
 unfolding everything
 layout_means schema at tree exists =

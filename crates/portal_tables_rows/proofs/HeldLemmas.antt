@@ -8,6 +8,7 @@ use Rattle.portal_tables_rows.proofs.Common.{ReadsTables}
 use Rattle.sqlite.specs.Store.{Ghosts}
 use Rattle.portal_tables_rows.specs.Selects.{ReadsRow}
 use Rattle.portal_tables_rows.specs.Selects.{ReadsOpen}
+use Rattle.portal_tables_rows.proofs.Caused.{not_foreign}
 
 pub all_stand : (db : Database) (t : Contents) → Holds db t → HasTables db.schema
 all_stand db t held = (held.places, held.tables_exist)
@@ -21,10 +22,10 @@ module _ {S : Type 0} (g : Ghosts S) where
   -- a read of one table
   pub row_opened : {A : Type 0} {a b : Held S} {result : Result A RowError} {Is : Contents → A → Type 0}
       {Own : Contents → Type 0} → ReadsRow g a b result Is Own → ReadsOpen g HasTables Holds a b result Is Own
-  row_opened r = record {
+  row_opened {a = a} {b = b} r = record {
     read = λ clean live t held. r.found clean t held;
     looks = r.looks;
-    foreign = λ clean live t held own. r.foreign clean t held own;
+    foreign = λ clean live t held own. not_foreign (state g a) (state g b) _ (r.caused clean t held own);
   }
 
   -- reads of tables that others have too, or that hold more

@@ -1,5 +1,6 @@
 pub mod Asking
 pub mod AuditLemmas
+pub mod Caused
 pub mod Cells
 pub mod Common
 pub mod Compose
@@ -34,6 +35,7 @@ pub mod PageReading
 pub mod Parts
 pub mod Pairs
 pub mod Printed
+pub mod Readable
 pub mod Reading
 pub mod RequestCells
 pub mod RequestReading

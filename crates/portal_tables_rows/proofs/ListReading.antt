@@ -2,15 +2,16 @@
 use Rattle.portal_tables_rows.proofs.Common.{◌≡◌, ◌<◌, ℕ, List, [], ◌∷◌, ◌++◌, Bool, map, filter, length}
 use Rattle.portal_tables_rows.proofs.Common.{false, refl, sym, ap, ap₂, subst, ◌∙◌, lit<, bytes_eq}
 use Rattle.portal_tables_rows.proofs.Common.{Ordering, Key, then-Equal, value_cmp-Text, Text, Row}
-use Rattle.portal_tables_rows.proofs.Common.{column, value_cmp, Schema, Table, Term, State, Shown, understood}
-use Rattle.portal_tables_rows.proofs.Common.{means_simple, key_tests, map-map, filter-map, number, has_key}
+use Rattle.portal_tables_rows.proofs.Common.{column, value_cmp, Schema, Table, Term, State, Shown}
+use Rattle.portal_tables_rows.proofs.Common.{key_tests, map-map, filter-map, number, has_key}
 use Rattle.portal_tables_rows.proofs.Common.{by_column, fields, IsSelection, text_test, selected, field_at}
 use Rattle.portal_tables_rows.proofs.Common.{orders_by, by, passes, keys_of, VoucherRow, vouchers}
 use Rattle.portal_tables_rows.proofs.Common.{Contents, Holds, HasTables, WholeVoucher}
 use Rattle.portal_tables_rows.proofs.Common.{whole_voucher_cells}
 use Rattle.portal_tables_rows.proofs.Common.{ListsAs, is_within, by_place, by_refund, by_sale}
-use Rattle.portal_tables_rows.proofs.Common.{sale_columns, sale_cells, IsSimple}
+use Rattle.portal_tables_rows.proofs.Common.{sale_columns, sale_cells}
 use Rattle.portal_tables_rows.proofs.Cells.{vouchers_in}
+use Rattle.portal_tables_sql.specs.Causes.{IsTaken}
 use Rattle.portal_tables_sql.proofs.SelectTexts.{voucher_columns}
 use Rattle.std.specs.Ordering.{ordering_then}
 use Rattle.sqlite.specs.Query.{key_cmp}
@@ -66,11 +67,11 @@ batch_rows_are old new batch rows shown t h =
     (h.store our.Vouchers (always _, tt)).whole (has_key 1 (Text batch)) (by_column 2)
     (λ w. text_test w.row.batch batch) (λ a b. number_order a.row.place b.row.place) rows all
 
-pub batch_simple : (schema : Schema) → HasTables schema
-    → IsSimple (understood schema texts.batch_vouchers_text)
-batch_simple schema h = let place = (h.0 our.Vouchers) in
-    means_simple schema texts.batch_vouchers_text _ _
-    (texts.batch_vouchers_means schema place.at place.tree (h.1.tables our.Vouchers (always _, tt)).exists)
+pub batch_taken : (batch : List ℕ) → (schema : Schema) → HasTables schema
+    → IsTaken texts.batch_vouchers_text (Text batch ∷ []) schema
+batch_taken batch schema h = let place = (h.0 our.Vouchers) in
+    texts.batch_vouchers_taken schema place.at place.tree (h.1.tables our.Vouchers (always _, tt)).exists
+    batch
 
 -- ---- the vouchers with a time between two
 
@@ -147,17 +148,17 @@ module _ (old new : State) (from to : ℕ) (rows : List Row) (t : Contents) (h :
       (λ a b. ap₂ ordering_then (option_order a.row.refunded b.row.refunded)
       (value_cmp-Text a.row.code b.row.code)) rows all
 
-pub sold_simple : (schema : Schema) → HasTables schema → IsSimple (understood schema texts.sold_text)
-sold_simple schema h = let place = (h.0 our.Vouchers) in
-    means_simple schema texts.sold_text _ _
-    (texts.sold_means schema place.at place.tree (h.1.tables our.Vouchers (always _, tt)).exists)
+pub sold_taken : (start : ℕ) (last : ℕ) → (schema : Schema) → HasTables schema
+    → IsTaken texts.sold_text (number start ∷ number last ∷ []) schema
+sold_taken start last schema h = let place = (h.0 our.Vouchers) in
+    texts.sold_taken schema place.at place.tree (h.1.tables our.Vouchers (always _, tt)).exists start last
 
-pub ordered_simple : (schema : Schema) → HasTables schema → IsSimple (understood schema texts.ordered_text)
-ordered_simple schema h = let place = (h.0 our.Vouchers) in
-    means_simple schema texts.ordered_text _ _
-    (texts.ordered_means schema place.at place.tree (h.1.tables our.Vouchers (always _, tt)).exists)
+pub ordered_taken : (start : ℕ) (last : ℕ) → (schema : Schema) → HasTables schema
+    → IsTaken texts.ordered_text (number start ∷ number last ∷ []) schema
+ordered_taken start last schema h = let place = (h.0 our.Vouchers) in
+    texts.ordered_taken schema place.at place.tree (h.1.tables our.Vouchers (always _, tt)).exists start last
 
-pub refunded_simple : (schema : Schema) → HasTables schema → IsSimple (understood schema texts.refunded_text)
-refunded_simple schema h = let place = (h.0 our.Vouchers) in
-    means_simple schema texts.refunded_text _ _
-    (texts.refunded_means schema place.at place.tree (h.1.tables our.Vouchers (always _, tt)).exists)
+pub refunded_taken : (start : ℕ) (last : ℕ) → (schema : Schema) → HasTables schema
+    → IsTaken texts.refunded_text (number start ∷ number last ∷ []) schema
+refunded_taken start last schema h = let place = (h.0 our.Vouchers) in
+    texts.refunded_taken schema place.at place.tree (h.1.tables our.Vouchers (always _, tt)).exists start last

@@ -11,7 +11,7 @@ use Rattle.portal_tables_rows.proofs.Common.{WholeVoucher, WholeSession, whole_v
 use Rattle.portal_tables_rows.proofs.Common.{total_of}
 use Rattle.portal_tables_rows.proofs.Common.{Contents, Holds, HoldsFirst, HasTables, HasFirst, HoldsApart}
 use Rattle.portal_tables_rows.proofs.Common.{HasApart, HoldsBare, HasBare, subst₂}
-use Rattle.portal_tables_rows.proofs.Common.{IsOfOwn, AreOwn, IsOwnVoucher, NotForeign, BlamesForeign}
+use Rattle.portal_tables_rows.proofs.Common.{IsOfOwn, AreOwn, IsOwnVoucher, BlamesForeign}
 use Rattle.portal_tables_rows.proofs.Common.{IsOwnSession, IsOwnTotal, IsOwnWholeVoucher, IsOwnWholeSession}
 use Rattle.portal_tables_rows.proofs.Common.{RowError, ReadsMany, ReadsRow, ReadsTables, Lists, ListsAs}
 use Rattle.portal_tables_rows.proofs.Cells.{exact_whole_voucher}
@@ -21,6 +21,10 @@ use Rattle.portal_tables_rows.specs.Audit.{AreAmong}
 use Rattle.portal_tables_rows.specs.Selects.{ReadsFirst, ReadsApart, ReadsBare}
 use Rattle.portal_tables_sql.proofs.TableLemmas.{always}
 use Rattle.portal_tables_sql.specs.declared.our_tables.OurTable.TheVariants as our
+use Rattle.portal_tables_sql.specs.Causes.{IsTaken}
+use Rattle.portal_tables_sql.proofs.Causes.{taken_asks, taken_simple}
+use Rattle.portal_tables_rows.specs.Foreign.{IsOwnRow, OnlyMemory}
+use Rattle.portal_tables_rows.proofs.Caused.{memory_caused}
 use Rattle.portal_tables_rows.specs.Lists.{ListsFirst}
 use Rattle.portal_tables_rows.proofs.Listing.{read_listed, read_first}
 use Rattle.portal_tables_rows.proofs.OwnRows.{has_taken, own_rows, own_listed, own_first}
@@ -32,7 +36,7 @@ use Rattle.portal_tables_rows.proofs.SumLemmas.{rows_exact}
 pub record TellsAll {T : Type 0} (cells : T → Row) (width : ℕ) (own : Row → Type 0) (rows : List Row)
     (Is : Vec T Global → Type 0) (Own : Type 0) : Type 0 where
   pub is : (values : Vec T Global) → map cells values.items ≡ map (columns width) rows → Is values
-  pub owns : Own → AreOwn (λ row. own (columns width row)) rows
+  pub owns : Own → AreOwn (IsOwnRow own width) rows
 
 module _ {P : Type 0} (cells : P → Row) (n : ℕ) (all : (p : P) → columns n (cells p) ≡ cells p)
     (exact : (a b : P) → cells a ≡ cells b → a ≡ b) (IsOwn : P → Type 0) where
@@ -86,15 +90,17 @@ module _ {S T : Type 0} (g : Ghosts S) {old new : Held S} {cells : T → Row} {w
     many_foreign clean t h owns = many.own clean (simple t h) (λ rows shown. (tells rows shown t h).owns owns)
 
   -- of the tables of this schema version
-  pub reads_many : ((schema : Schema) → HasTables schema → IsSimple (understood schema sql))
+  pub reads_many : ((schema : Schema) → HasTables schema → IsTaken sql params schema)
       → ((rows : List Row) → Shown sql params (state g old) (state g new) rows → (t : Contents)
       → Holds (state g old).now t → TellsAll cells width own rows (Is t) (Own t))
       → ReadsMany g cells width own sql params old new result → ReadsRow g old new result Is Own
-  reads_many simple tells many = record {
-    found = many_found Holds (λ t h. simple _ (h.places, h.tables_exist)) tells many;
+  reads_many taken tells many = record {
+    found = many_found Holds (λ t h. taken_simple sql params _ (taken _ (h.places, h.tables_exist))) tells
+        many;
     looks = looks_weaker (Asks sql) HasTables
-        (λ schema has. simple_asks sql schema (simple schema has)) result _ _ many.looks;
-    foreign = many_foreign Holds (λ t h. simple _ (h.places, h.tables_exist)) tells many;
+        (λ schema has. taken_asks sql params schema (taken schema has)) result _ _ many.looks;
+    caused = λ clean t h own. many.caused clean (taken _ (h.places, h.tables_exist))
+        (λ rows shown. (tells rows shown t h).owns own);
   }
 
   -- of tables of other schema versions
@@ -199,7 +205,7 @@ first_listed limit passes cmp ws vs ks rows counts values l =
 pub lists_vouchers : {S : Type 0} (g : Ghosts S) {old new : Held S} (sql : List ℕ) (params : Row)
     {result : Result (Vec VoucherValue Global) RowError} (passes : VoucherRow → Bool)
     (cmp : VoucherRow → VoucherRow → Ordering)
-    → ((schema : Schema) → HasTables schema → IsSimple (understood schema sql))
+    → ((schema : Schema) → HasTables schema → IsTaken sql params schema)
     → ((rows : List Row) → Shown sql params (state g old) (state g new) rows → (t : Contents)
     (h : Holds (state g old).now t) → ListsAs whole_voucher_cells (λ w. passes w.row)
     (λ a b. cmp a.row b.row) (h.store our.Vouchers (always _, tt)).whole rows)
@@ -207,8 +213,8 @@ pub lists_vouchers : {S : Type 0} (g : Ghosts S) {old new : Held S} (sql : List 
     (IsOfOwn whole_voucher_cells IsOwnWholeVoucher) sql params old new result
     → ReadsRow g old new result (λ t vs. Lists passes cmp t.vouchers (map voucher_read vs.items)
     × AreAmong (map voucher_count vs.items) t.counts) (λ t. AreOwn IsOwnVoucher t.vouchers)
-lists_vouchers g sql params passes cmp simple listed many =
-    reads_many g sql params simple (λ rows shown t h.
+lists_vouchers g sql params passes cmp taken listed many =
+    reads_many g sql params taken (λ rows shown t h.
     let was = h.store our.Vouchers (always _, tt) in
     let it = tells_listed whole_voucher_cells 7 (λ v. refl) exact_whole_voucher IsOwnWholeVoucher
     whole_voucher_read (λ (w : WholeVoucher). passes w.row) (λ a b. cmp a.row b.row) was.whole rows
@@ -224,11 +230,12 @@ module _ {S A B : Type 0} (g : Ghosts S) {old new : Held S} {P : Contents → A 
   -- what is made of what was read
   pub row_made : {x : A} {Before : Contents → Type 0} (result : Result B RowError)
       → ReadsRow g old new (Ok x) P Before → ((t : Contents) → P t x → IfOk result (Q t))
-      → ((t : Contents) → P t x → Own t → NotForeign result) → ReadsRow g old new result Q Own
+      → ((t : Contents) → P t x → Own t → OnlyMemory result) → ReadsRow g old new result Q Own
   row_made result r is own = record {
     found = λ clean t h. is t (r.found clean t h);
     looks = looks_read HasTables result _ _ r.looks;
-    foreign = λ clean t h owns. own t (r.found clean t h) owns;
+    caused = λ clean t h owns. memory_caused (state g old) (state g new) result
+        (own t (r.found clean t h) owns);
   }
 
   -- a `?` on a reading that failed
@@ -237,4 +244,4 @@ module _ {S A B : Type 0} (g : Ghosts S) {old new : Held S} {P : Contents → A 
   row_fails result fails r =
       let told = err_from_is_err_and result fails in
       subst (λ (it : Result B RowError). ReadsRow g old new it Q Own) (sym (told.1 ∙ ap Err told.2))
-      (record { found = λ clean t h. tt; looks = r.looks; foreign = r.foreign })
+      (record { found = λ clean t h. tt; looks = r.looks; caused = r.caused })

@@ -3,16 +3,17 @@ use Rattle.portal_tables_rows.proofs.Common.{◌≡◌, ◌<◌, ℕ, ℤ, pos, 
 use Rattle.portal_tables_rows.proofs.Common.{nat_lt, map, filter, length, Option, Some, None, refl}
 use Rattle.portal_tables_rows.proofs.Common.{sym, ap, ap₂, ◌∙◌, arith, lit<, ints, nat_tests, Null, Int, Row}
 use Rattle.portal_tables_rows.proofs.Common.{Value, column, value_cmp, value_cmp-Int, value_cmp-apart}
-use Rattle.portal_tables_rows.proofs.Common.{value_cmp-Null, Schema, Table, State, Shown, understood, Binary}
-use Rattle.portal_tables_rows.proofs.Common.{means_simple, filter-map, number, or_null, fields}
+use Rattle.portal_tables_rows.proofs.Common.{value_cmp-Null, Schema, Table, State, Shown, Binary}
+use Rattle.portal_tables_rows.proofs.Common.{filter-map, number, or_null, fields}
 use Rattle.portal_tables_rows.proofs.Common.{field_at, passes, all_columns, sessions, Contents}
-use Rattle.portal_tables_rows.proofs.Common.{signed_or_null, Holds, HasTables, WholeSession, IsSimple}
+use Rattle.portal_tables_rows.proofs.Common.{signed_or_null, Holds, HasTables, WholeSession}
 use Rattle.portal_tables_rows.proofs.Common.{whole_session_cells, is_open_row, AreOwn, IsOwnWholeSession}
 use Rattle.portal_tables_rows.proofs.Common.{has_filtered}
 use Rattle.portal_tables_rows.specs.Lists.{is_left}
 use Rattle.portal_tables_rows.proofs.Cells.{sessions_in}
 use Rattle.portal_tables_rows.proofs.Listing.{and_true, truth_back}
 use Rattle.portal_tables_rows.proofs.PageReading.{or_back}
+use Rattle.portal_tables_sql.specs.Causes.{IsTaken}
 use Rattle.portal_tables_sql.proofs.ListTexts as texts
 use Rattle.portal_tables_sql.proofs.SelectTexts.{session_columns}
 use Rattle.portal_tables_sql.proofs.TableLemmas.{always}
@@ -111,11 +112,11 @@ open_rows_are old new at rows shown t h =
     ∙ filter-map (row_passes at) whole_session_cells was.whole
     ∙ (λ i. map whole_session_cells (filter (λ (w : WholeSession). open_is at w i) was.whole))
 
-pub open_simple : (schema : Schema) → HasTables schema
-    → IsSimple (understood schema texts.open_sessions_text)
-open_simple schema h = let place = (h.0 our.Sessions) in
-    means_simple schema texts.open_sessions_text _ _
-    (texts.open_sessions_means schema place.at place.tree (h.1.tables our.Sessions (always _, tt)).exists)
+pub open_taken : (moment : ℕ) → (schema : Schema) → HasTables schema
+    → IsTaken texts.open_sessions_text (number moment ∷ []) schema
+open_taken moment schema h = let place = (h.0 our.Sessions) in
+    texts.open_sessions_taken schema place.at place.tree (h.1.tables our.Sessions (always _, tt)).exists
+    moment
 
 -- of those that this product writes
 pub own_open : (at : ℕ) (ws : List WholeSession) → AreOwn IsOwnWholeSession ws

@@ -5,16 +5,17 @@ use Rattle.portal_tables_rows.proofs.Common.{true, false, ◌&&◌, ◌||◌, re
 use Rattle.portal_tables_rows.proofs.Common.{bytes_eq, nat_le, nat_cmp, is_ge, is_le, Equal, IsPermutation}
 use Rattle.portal_tables_rows.proofs.Common.{Some, arith}
 use Rattle.portal_tables_rows.proofs.Common.{Ordering, Key, then-Equal, value_cmp-Text, Text, Row, column}
-use Rattle.portal_tables_rows.proofs.Common.{value_cmp, Schema, Table, Term, State, Shown, understood}
-use Rattle.portal_tables_rows.proofs.Common.{means_simple, key_tests, number, has_key, by_column, fields}
-use Rattle.portal_tables_rows.proofs.Common.{IsSelection, IsPlain, text_test, first_selected, selected}
+use Rattle.portal_tables_rows.proofs.Common.{value_cmp, Schema, Table, Term, State, Shown}
+use Rattle.portal_tables_rows.proofs.Common.{key_tests, number, has_key, by_column, fields}
+use Rattle.portal_tables_rows.proofs.Common.{IsSelection, text_test, first_selected, selected}
 use Rattle.portal_tables_rows.proofs.Common.{field_at, orders_by, orders_down, by, passes, keys_of}
 use Rattle.portal_tables_rows.proofs.Common.{vouchers, batches, Contents, WholeVoucher, whole_voucher_cells}
-use Rattle.portal_tables_rows.proofs.Common.{batch_cells, Holds, HasTables, ListsAs, IsSimple, Ge, Le, Binary}
+use Rattle.portal_tables_rows.proofs.Common.{batch_cells, Holds, HasTables, ListsAs, Ge, Le, Binary}
 use Rattle.portal_tables_rows.proofs.Cells.{vouchers_in, batches_in, grants_in}
 use Rattle.portal_tables_rows.proofs.Listing.{number_order, cells_listed}
 use Rattle.portal_tables_rows.specs.Contents.{grant_cells}
 use Rattle.portal_tables_rows.specs.Lists.{is_between, is_behind, by_code, by_newest}
+use Rattle.portal_tables_sql.specs.Causes.{IsTaken}
 use Rattle.portal_tables_sql.proofs.PageTexts as texts
 use Rattle.portal_tables_sql.proofs.SelectTexts.{voucher_columns, batch_columns}
 use Rattle.portal_tables_sql.proofs.TableLemmas.{always}
@@ -112,10 +113,10 @@ between_rows_are old new low high rows shown t h =
       it.2,
     )
 
-pub between_simple : (schema : Schema) → HasTables schema → IsSimple (understood schema texts.between_text)
-between_simple schema h = let place = (h.0 our.Vouchers) in
-    means_simple schema texts.between_text _ _
-    (texts.between_means schema place.at place.tree (h.1.tables our.Vouchers (always _, tt)).exists)
+pub between_taken : (low : List ℕ) (high : List ℕ) → (schema : Schema) → HasTables schema
+    → IsTaken texts.between_text (Text low ∷ Text high ∷ []) schema
+between_taken low high schema h = let place = (h.0 our.Vouchers) in
+    texts.between_taken schema place.at place.tree (h.1.tables our.Vouchers (always _, tt)).exists low high
 
 -- ---- batches behind a place in their list
 
@@ -164,16 +165,17 @@ behind_rows_are old new at id rows shown t h =
       it.2,
     )
 
-pub behind_simple : (schema : Schema) → HasTables schema → IsSimple (understood schema texts.behind_text)
-behind_simple schema h = let place = (h.0 our.Batches) in
-    means_simple schema texts.behind_text _ _
-    (texts.behind_means schema place.at place.tree (h.1.tables our.Batches (always _, tt)).exists)
+pub behind_taken : (moment : ℕ) (id : List ℕ) → (schema : Schema) → HasTables schema
+    → IsTaken texts.behind_text (number moment ∷ Text id ∷ []) schema
+behind_taken moment id schema h = let place = (h.0 our.Batches) in
+    texts.behind_taken schema place.at place.tree (h.1.tables our.Batches (always _, tt)).exists moment id
 
 -- ---- redemptions
 
-pub grant_plain : (schema : Schema) → HasTables schema → IsPlain (understood schema texts.grant_text)
-grant_plain schema h = let place = (h.0 our.Grants) in
-    (texts.grant_means schema place.at place.tree (h.1.tables our.Grants (always _, tt)).exists).plain
+pub grant_taken : (key : ℕ) → (schema : Schema) → HasTables schema
+    → IsTaken texts.grant_text (number key ∷ []) schema
+grant_taken key schema h = let place = (h.0 our.Grants) in
+    texts.grant_taken schema place.at place.tree (h.1.tables our.Grants (always _, tt)).exists key
 
 pub grant_rows_are : (old new : State) (id : ℕ) (rows : List Row)
     → Shown texts.grant_text (number id ∷ []) old new rows → (t : Contents) → Holds old.now t
@@ -209,8 +211,7 @@ last_grants_rows_are old new code rows shown t h =
       it.2,
     )
 
-pub last_grants_simple : (schema : Schema) → HasTables schema
-    → IsSimple (understood schema texts.last_grants_text)
-last_grants_simple schema h = let place = (h.0 our.Grants) in
-    means_simple schema texts.last_grants_text _ _
-    (texts.last_grants_means schema place.at place.tree (h.1.tables our.Grants (always _, tt)).exists)
+pub last_grants_taken : (code : List ℕ) → (schema : Schema) → HasTables schema
+    → IsTaken texts.last_grants_text (Text code ∷ []) schema
+last_grants_taken code schema h = let place = (h.0 our.Grants) in
+    texts.last_grants_taken schema place.at place.tree (h.1.tables our.Grants (always _, tt)).exists code

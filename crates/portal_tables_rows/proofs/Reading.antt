@@ -1,19 +1,21 @@
 -- The result of each SELECT, by the rows that the tables hold.
 use Rattle.portal_tables_rows.proofs.Common.{◌≡◌, ℕ, List, [], ◌∷◌, map, filter, take, refl, subst, Equal}
-use Rattle.portal_tables_rows.proofs.Common.{lit<, IsPermutation, Text, Row, Schema, understood, State}
-use Rattle.portal_tables_rows.proofs.Common.{Shown, IsPlain, number, has_key, by_column, IsSelection}
+use Rattle.portal_tables_rows.proofs.Common.{lit<, IsPermutation, Text, Row, Schema, State}
+use Rattle.portal_tables_rows.proofs.Common.{Shown, number, has_key, by_column, IsSelection}
 use Rattle.portal_tables_rows.proofs.Common.{selected, first_selected, key_tests, literal_tests, orders_down}
 use Rattle.portal_tables_rows.proofs.Common.{head, plans, batches, vouchers, sessions, Contents, head_cells}
 use Rattle.portal_tables_rows.proofs.Common.{plan_cells, batch_cells, Holds, HasTables, whole_voucher_cells}
 use Rattle.portal_tables_rows.proofs.Common.{whole_session_cells}
 use Rattle.portal_tables_rows.proofs.Cells.{heads_in, plans_in, batches_in, vouchers_in, sessions_in}
+use Rattle.portal_tables_sql.specs.Causes.{IsTaken}
 use Rattle.portal_tables_sql.proofs.SelectTexts as texts
 use Rattle.portal_tables_sql.specs.declared.our_tables.OurTable.TheVariants as our
 use Rattle.portal_tables_sql.proofs.TableLemmas.{always}
 
-pub head_plain : (schema : Schema) → HasTables schema → IsPlain (understood schema texts.head_text)
-head_plain schema h = let place = (h.0 our.Head) in
-    (texts.head_means schema place.at place.tree (h.1.tables our.Head (always _, tt)).exists).plain
+pub head_taken : (schema : Schema) → HasTables schema
+    → IsTaken texts.head_text [] schema
+head_taken schema h = let place = (h.0 our.Head) in
+    texts.head_taken schema place.at place.tree (h.1.tables our.Head (always _, tt)).exists
 
 pub head_rows_are : (old new : State) (rows : List Row)
     → Shown texts.head_text [] old new rows → (t : Contents) → Holds old.now t
@@ -27,9 +29,10 @@ head_rows_are old new rows shown t h =
     subst (λ xs. IsPermutation (filter (has_key 0 (number 1)) xs) rows)
     (heads_in old.now.trees place.tree t.heads (h.store our.Head (always _, tt))) it.same
 
-pub plan_plain : (schema : Schema) → HasTables schema → IsPlain (understood schema texts.plan_text)
-plan_plain schema h = let place = (h.0 our.Plans) in
-    (texts.plan_means schema place.at place.tree (h.1.tables our.Plans (always _, tt)).exists).plain
+pub plan_taken : (id : List ℕ) → (schema : Schema) → HasTables schema
+    → IsTaken texts.plan_text (Text id ∷ []) schema
+plan_taken id schema h = let place = (h.0 our.Plans) in
+    texts.plan_taken schema place.at place.tree (h.1.tables our.Plans (always _, tt)).exists id
 
 pub plan_rows_are : (old new : State) (id : List ℕ) (rows : List Row)
     → Shown texts.plan_text (Text id ∷ []) old new rows → (t : Contents) → Holds old.now t
@@ -45,9 +48,10 @@ plan_rows_are old new id rows shown t h =
     subst (λ xs. IsPermutation (filter (has_key 0 (Text id)) xs) rows)
     (plans_in old.now.trees place.tree t.plans (h.store our.Plans (always _, tt))) it.same
 
-pub batch_plain : (schema : Schema) → HasTables schema → IsPlain (understood schema texts.batch_text)
-batch_plain schema h = let place = (h.0 our.Batches) in
-    (texts.batch_means schema place.at place.tree (h.1.tables our.Batches (always _, tt)).exists).plain
+pub batch_taken : (id : List ℕ) → (schema : Schema) → HasTables schema
+    → IsTaken texts.batch_text (Text id ∷ []) schema
+batch_taken id schema h = let place = (h.0 our.Batches) in
+    texts.batch_taken schema place.at place.tree (h.1.tables our.Batches (always _, tt)).exists id
 
 pub batch_rows_are : (old new : State) (id : List ℕ) (rows : List Row)
     → Shown texts.batch_text (Text id ∷ []) old new rows → (t : Contents) → Holds old.now t
@@ -62,9 +66,10 @@ batch_rows_are old new id rows shown t h =
     subst (λ xs. IsPermutation (filter (has_key 0 (Text id)) xs) rows)
     (batches_in old.now.trees place.tree t.batches (h.store our.Batches (always _, tt))) it.same
 
-pub voucher_plain : (schema : Schema) → HasTables schema → IsPlain (understood schema texts.voucher_text)
-voucher_plain schema h = let place = (h.0 our.Vouchers) in
-    (texts.voucher_means schema place.at place.tree (h.1.tables our.Vouchers (always _, tt)).exists).plain
+pub voucher_taken : (code : List ℕ) → (schema : Schema) → HasTables schema
+    → IsTaken texts.voucher_text (Text code ∷ []) schema
+voucher_taken code schema h = let place = (h.0 our.Vouchers) in
+    texts.voucher_taken schema place.at place.tree (h.1.tables our.Vouchers (always _, tt)).exists code
 
 pub voucher_rows_are : (old new : State) (code : List ℕ) (rows : List Row)
     → Shown texts.voucher_text (Text code ∷ []) old new rows → (t : Contents) (h : Holds old.now t)
@@ -80,9 +85,10 @@ voucher_rows_are old new code rows shown t h =
     subst (λ xs. IsPermutation (filter (has_key 0 (Text code)) xs) rows)
     (vouchers_in old.now.trees place.tree _ (h.store our.Vouchers (always _, tt)).stored) it.same
 
-pub session_plain : (schema : Schema) → HasTables schema → IsPlain (understood schema texts.session_text)
-session_plain schema h = let place = (h.0 our.Sessions) in
-    (texts.session_means schema place.at place.tree (h.1.tables our.Sessions (always _, tt)).exists).plain
+pub session_taken : (id : ℕ) → (schema : Schema) → HasTables schema
+    → IsTaken texts.session_text (number id ∷ []) schema
+session_taken id schema h = let place = (h.0 our.Sessions) in
+    texts.session_taken schema place.at place.tree (h.1.tables our.Sessions (always _, tt)).exists id
 
 pub session_rows_are : (old new : State) (id : ℕ) (rows : List Row)
     → Shown texts.session_text (number id ∷ []) old new rows → (t : Contents) (h : Holds old.now t)
@@ -98,11 +104,10 @@ session_rows_are old new id rows shown t h =
     subst (λ xs. IsPermutation (filter (has_key 0 (number id)) xs) rows)
     (sessions_in old.now.trees place.tree _ (h.store our.Sessions (always _, tt)).stored) it.same
 
-pub last_session_plain : (schema : Schema) → HasTables schema
-    → IsPlain (understood schema texts.last_session_text)
-last_session_plain schema h = let place = (h.0 our.Sessions) in
-    (texts.last_session_means schema place.at place.tree (h.1.tables our.Sessions
-    (always _, tt)).exists).plain
+pub last_session_taken : (device : List ℕ) → (schema : Schema) → HasTables schema
+    → IsTaken texts.last_session_text (Text device ∷ []) schema
+last_session_taken device schema h = let place = (h.0 our.Sessions) in
+    texts.last_session_taken schema place.at place.tree (h.1.tables our.Sessions (always _, tt)).exists device
 
 pub last_session_rows_are : (old new : State) (device : List ℕ) (rows : List Row)
     → Shown texts.last_session_text (Text device ∷ []) old new rows → (t : Contents) (h : Holds old.now t)

@@ -1,12 +1,16 @@
 -- The results of the SELECTs, by the rows that the table holds, and the request that is found.
 use Rattle.portal_tables_rows.proofs.Common.{◌≡◌, ap, ap₂, sym, ◌∙◌, true, map-map, column, field_at}
-use Rattle.portal_tables_rows.proofs.Common.{IsSimple}
-use Rattle.portal_tables_rows.proofs.Common.{means_simple}
 use Rattle.portal_tables_rows.proofs.Common.{ℕ, Option, Result, option_map, Ghosts, Held, RequestRow, Finds}
 use Rattle.portal_tables_rows.proofs.Common.{key_of, request_read, List, [], ◌∷◌, map, filter, refl, subst}
-use Rattle.portal_tables_rows.proofs.Common.{Equal, lit<, lit≤, IsPermutation, Text, Row, Schema, understood}
-use Rattle.portal_tables_rows.proofs.Common.{State, Shown, IsPlain, selected, requests, Contents}
+use Rattle.portal_tables_rows.proofs.Common.{Equal, lit<, lit≤, IsPermutation, Text, Row, Schema}
+use Rattle.portal_tables_rows.proofs.Common.{State, Shown, selected, requests, Contents}
 use Rattle.portal_tables_rows.proofs.Common.{request_cells, Holds, HasTables, has_keys}
+use Rattle.portal_tables_sql.specs.Causes.{IsTaken}
+use Rattle.portal_tables_rows.proofs.Common.{AreOwn, IsOfOwn}
+use Rattle.portal_tables_rows.specs.Foreign.{IsOwnRequest}
+use Rattle.portal_tables_rows.specs.Requests.{IsReadable}
+use Rattle.portal_tables_rows.proofs.Foreign.{of_first}
+use Rattle.portal_tables_rows.proofs.Readable.{request_readable}
 use Rattle.portal_tables_sql.proofs.RequestTexts as texts
 use Rattle.portal_tables_rows.specs.Requests.{key_cells}
 use Rattle.portal_tables_rows.specs.Selects.{ReadsOne, ReadsRow}
@@ -18,9 +22,10 @@ use Rattle.portal_tables_rows.proofs.Pairs.{pair_meets, pair_only, pair_tests, t
 use Rattle.portal_tables_sql.proofs.WholeTables.{some_columns}
 use Rattle.portal_tables_sql.specs.declared.our_tables.OurTable.TheVariants as our
 
-pub request_plain : (schema : Schema) → HasTables schema → IsPlain (understood schema texts.request_text)
-request_plain schema h = let place = (h.0 our.Requests) in
-    (texts.request_means schema place.at place.tree (h.1.tables our.Requests (lit≤ tt, tt)).exists).plain
+pub request_taken : (caller : List ℕ) (id : List ℕ) → (schema : Schema) → HasTables schema
+    → IsTaken texts.request_text (Text caller ∷ Text id ∷ []) schema
+request_taken caller id schema h = let place = (h.0 our.Requests) in
+    texts.request_taken schema place.at place.tree (h.1.tables our.Requests (lit≤ tt, tt)).exists caller id
 
 pub request_rows_are : (old new : State) (caller id : List ℕ) (rows : List Row)
     → Shown texts.request_text (Text caller ∷ Text id ∷ []) old new rows → (t : Contents) → Holds old.now t
@@ -38,16 +43,17 @@ request_rows_are old new caller id rows shown t h =
 
 pub reads_request : {S : Type 0} (g : Ghosts S) {old new : Held S} (caller id : List ℕ)
     {result : Result (Option StoredRequest) RowError}
-    → ReadsOne g (λ (r : StoredRequest). request_cells (request_read r)) 10 (λ _. Unit {0}) (λ _. Unit {0})
-    texts.request_text (Text caller ∷ Text id ∷ []) old new result
+    → ReadsOne g (λ (r : StoredRequest). request_cells (request_read r)) 10 (λ _. Unit {0})
+    (IsOfOwn request_cells IsReadable) texts.request_text (Text caller ∷ Text id ∷ []) old new result
     → ReadsRow g old new result
-    (λ t found. Finds key_of (caller, id) t.requests (option_map request_read found)) (λ t. Unit {0})
+    (λ t found. Finds key_of (caller, id) t.requests (option_map request_read found))
+    (λ t. AreOwn IsOwnRequest t.requests)
 reads_request g caller id =
     let only = pair_only request_cells 0 1 (λ (k : RequestRow). k.caller) (λ (k : RequestRow). k.number)
     (λ k. refl) (λ k. refl) caller id in
     let meets = pair_meets request_cells 0 1 (λ (k : RequestRow). k.caller) (λ (k : RequestRow). k.number)
     (λ k. refl) (λ k. refl) caller id in
-    reads_one g texts.request_text _ request_plain
+    reads_one g texts.request_text _ (request_taken _ _)
     (λ rows shown t h.
     let answer = request_rows_are _ _ caller id rows shown t h in
     record {
@@ -58,7 +64,9 @@ reads_request g caller id =
           row (request_read x) got is;
       none = λ got. tested_none request_cells key_of (caller, id) (has_keys 0 (Text caller) 1 (Text id)) only
           meets 10 (λ k. refl) exact_request t.requests rows answer got;
-      owns = λ own row got. tt;
+      owns = λ own row got. of_first request_cells 10 (λ k. refl) IsReadable t.requests
+          (λ k has. request_readable k (own k has)) (has_keys 0 (Text caller) 1 (Text id)) rows answer row
+          got;
     })
 
 -- ---- the keys of all requests
@@ -73,10 +81,10 @@ all_pass : (rows : List Row) → filter (λ _. true) rows ≡ rows
 all_pass [] = refl
 all_pass (r ∷ rows) = ap (λ xs. r ∷ xs) (all_pass rows)
 
-pub keys_simple : (schema : Schema) → HasTables schema → IsSimple (understood schema texts.keys_text)
-keys_simple schema h = let place = (h.0 our.Requests) in
-    means_simple schema texts.keys_text _ _
-    (texts.keys_means schema place.at place.tree (h.1.tables our.Requests (lit≤ tt, tt)).exists)
+pub keys_taken : (schema : Schema) → HasTables schema
+    → IsTaken texts.keys_text [] schema
+keys_taken schema h = let place = (h.0 our.Requests) in
+    texts.keys_taken schema place.at place.tree (h.1.tables our.Requests (lit≤ tt, tt)).exists
 
 pub keys_are : (old new : State) (rows : List Row) → Shown texts.keys_text [] old new rows
     → (t : Contents) → Holds old.now t → rows ≡ map key_cells (map key_of t.requests)

@@ -20,7 +20,7 @@ module _ (sql : List ℕ) (params : Row) (old new : State) (count : ℕ)
     (ran : Executes sql params old new (Ok count)) (table : Table) {at : ℕ}
     (exists : TableExists old.now.schema at (simple table)) where
   module _ {P : Type 0} (terms : List Term) (width : ℕ)
-      (means : Means old.now.schema sql (Insert at (Values terms width)))
+      {n : ℕ} (means : Means old.now.schema sql n (Insert at (Values terms width)))
       (one : length terms / width ≡ 1) where
     -- an INSERT of a row with the next rowid
     pub adds : (cells : P → Row) (ps : List P) (p : P) → Stores less_rowid cells (old.now.trees table.tree) ps
@@ -54,7 +54,7 @@ module _ (sql : List ℕ) (params : Row) (old new : State) (count : ℕ)
   pub sets : {P : Type 0} (cut : Row → Row) (cells : P → Row) (row_of : ℤ → P → Row)
       (opens : (r : Row) (p : P) → IsTrue (is_int (rowid r)) → cut r ≡ cells p → (n : ℤ) × (r ≡ row_of n p))
       (cuts : (n : ℤ) (p : P) → cut (row_of n p) ≡ cells p) (test terms : List Term)
-      → IsUnacted old.now.schema table.tree → IsSet old.now.schema sql at table.tree test terms
+      → IsUnacted old.now.schema table.tree → {n : ℕ} → IsSet old.now.schema sql n at table.tree test terms
       → (ps : List P) → Stores cut cells (old.now.trees table.tree) ps → (passes : P → Bool) (set : P → P)
       → ((r : Row) → rowid (eval_all terms (params ∷ r ∷ [])) ≡ rowid r)
       → ((n : ℤ) (p : P) → meant table.tree test (col 1 0 ∷ terms) params (row_of n p) ≡ passes p)

@@ -23,6 +23,7 @@ plans_asked schema c is =
       is = refl;
       timeless = refl;
       counted = refl;
+      whole = refl;
     }) (λ schema. refl) (λ schema base. refl) schema c is).0
 
 pub vouchers_asked : OnlyAsks texts.all_vouchers_text
@@ -35,6 +36,7 @@ vouchers_asked schema c is =
       is = refl;
       timeless = refl;
       counted = refl;
+      whole = refl;
     }) (λ schema. refl) (λ schema base. refl) schema c is).0
 
 pub sessions_asked : OnlyAsks texts.all_sessions_text
@@ -47,6 +49,7 @@ sessions_asked schema c is =
       is = refl;
       timeless = refl;
       counted = refl;
+      whole = refl;
     }) (λ schema. refl) (λ schema base. refl) schema c is).0
 
 pub grants_asked : OnlyAsks texts.all_grants_text
@@ -54,7 +57,8 @@ unfolding everything
 grants_asked schema c is =
     (understood_idle texts.all_grants_text
     (written.Select (select_of grants_name texts.all_grants_columns None (up (codes "number")) None))
-    0 (record { parsed = _; read = refl; is = refl; timeless = refl; counted = refl }) (λ schema. refl)
+    0 (record { parsed = _; read = refl; is = refl; timeless = refl; counted = refl; whole = refl })
+    (λ schema. refl)
     (λ schema base. refl) schema c is).0
 
 pub heads_asked : OnlyAsks texts.all_heads_text
@@ -67,6 +71,7 @@ heads_asked schema c is =
       is = refl;
       timeless = refl;
       counted = refl;
+      whole = refl;
     }) (λ schema. refl) (λ schema base. refl) schema c is).0
 
 pub batches_asked : OnlyAsks texts.all_batches_text
@@ -79,6 +84,7 @@ batches_asked schema c is =
       is = refl;
       timeless = refl;
       counted = refl;
+      whole = refl;
     }) (λ schema. refl) (λ schema base. refl) schema c is).0
 
 pub requests_asked : OnlyAsks texts.all_requests_text
@@ -91,6 +97,7 @@ requests_asked schema c is =
       is = refl;
       timeless = refl;
       counted = refl;
+      whole = refl;
     }) (λ schema. refl) (λ schema base. refl) schema c is).0
 
 pub whole_asked : (x : CopiedTable) → OnlyAsks (select_all_of x)
@@ -113,6 +120,7 @@ old_vouchers_asked schema c is =
       is = refl;
       timeless = refl;
       counted = refl;
+      whole = refl;
     }) (λ schema. refl) (λ schema base. refl) schema c is).0
 
 pub old_sessions_asked : OnlyAsks texts.old_sessions_text
@@ -126,6 +134,7 @@ old_sessions_asked schema c is =
       is = refl;
       timeless = refl;
       counted = refl;
+      whole = refl;
     }) (λ schema. refl) (λ schema base. refl) schema c is).0
 
 pub old_counts_asked : OnlyAsks texts.old_counts_text
@@ -138,6 +147,7 @@ old_counts_asked schema c is =
       is = refl;
       timeless = refl;
       counted = refl;
+      whole = refl;
     }) (λ schema. refl) (λ schema base. refl) schema c is).0
 
 pub old_totals_asked : OnlyAsks texts.old_totals_text
@@ -150,4 +160,5 @@ old_totals_asked schema c is =
       is = refl;
       timeless = refl;
       counted = refl;
+      whole = refl;
     }) (λ schema. refl) (λ schema base. refl) schema c is).0

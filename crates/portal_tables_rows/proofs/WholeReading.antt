@@ -18,6 +18,7 @@ use Rattle.portal_tables_sql.proofs.SelectTexts.{session_columns, voucher_column
 use Rattle.portal_tables_sql.proofs.WholeTables.{whole_table}
 use Rattle.portal_tables_sql.proofs.WholeTexts as texts
 use Rattle.portal_tables_sql.proofs.TableLemmas.{always}
+use Rattle.portal_tables_sql.specs.Causes.{IsTaken}
 use Rattle.portal_tables_sql.specs.Copies.{select_of, table_copied}
 use Rattle.portal_tables_sql.specs.Indexes.{our_indexes}
 use Rattle.portal_tables_sql.specs.Tables.{IsLaidOut, is_for_counters, since, table_in, keeps_clauses}
@@ -135,9 +136,9 @@ all_plans_are old new rows shown t h =
     whole_rows copied.Plans h.0 old new rows shown (h.1.places our.Plans)
     (h.1.tables_exist.tables our.Plans (always _, tt)).exists t (h.1.store our.Plans (always _, tt))
 
-pub all_batches_simple : (schema : Schema) → HasTables schema →
-    IsSimple (understood schema texts.all_batches_text)
-all_batches_simple schema h = whole_simple copied.Batches schema Together (h.0 our.Batches)
+pub all_batches_taken : (schema : Schema) → HasTables schema → IsTaken texts.all_batches_text [] schema
+all_batches_taken schema h = let place = (h.0 our.Batches) in
+    texts.all_batches_taken schema (keeps_clauses Together) place.at place.tree
     (h.1.tables our.Batches (always _, tt)).exists
 
 pub all_batches_are : (old new : State) (rows : List Row) → Shown texts.all_batches_text [] old new rows

@@ -1,9 +1,12 @@
 -- Which rows this product writes, and when a call may give ForeignRow.
-use Rattle.std.specs.Prelude.{◌≡◌, ℕ, ◌≤◌, Option, List, Result, IsSome, IfSome, IfErr}
+use Rattle.std.specs.Prelude.{◌≡◌, ℕ, ◌≤◌, Option, List, length, Result, IsSome, IfSome, IfErr}
 use Rattle.sqlite.specs.State.{State, HasCleanDisk}
+use Rattle.sqlite.specs.declared.error.Error.TheVariants.{SqliteFailure}
+use Rattle.sqlite.specs.declared.error.ErrorCode.TheVariants.{OutOfMemory}
 use Rattle.sqlite.specs.Effect.{Database}
 use Rattle.sqlite.specs.Order.{Row}
 use Rattle.sqlite_rules.specs.Lists.{Has}
+use Rattle.portal_tables_sql.specs.Causes.{HasCause}
 use Rattle.portal_tables_sql.specs.Finds.{columns}
 use Rattle.portal_codes.specs.Code.{IsCode, text_of}
 use Rattle.portal_model.specs.Device.{IsDevice, text_of_device}
@@ -107,9 +110,13 @@ AreOwn {P = P} IsOwn ps = (p : P) → Has ps p → IsOwn p
 abbrev pub IsOfOwn : {P C : Type 0} → (P → C) → (P → Type 0) → C → Type 0
 IsOfOwn {P = P} cells IsOwn shown = (p : P) × IsOwn p × (cells p ≡ shown)
 
--- the first columns of each row are the cells of a value that this product writes
+-- a row of a result has these columns, and they are of the kind that this product writes
+abbrev pub IsOwnRow : (Row → Type 0) → ℕ → Row → Type 0
+IsOwnRow IsOwn count row = IsOwn (columns count row) × (count ≤ length row)
+
+-- each row has the cells of a value that this product writes
 abbrev pub AreOfOwn : {P : Type 0} → (P → Row) → ℕ → (P → Type 0) → List Row → Type 0
-AreOfOwn cells count IsOwn rows = AreOwn (λ row. IsOfOwn cells IsOwn (columns count row)) rows
+AreOfOwn cells count IsOwn rows = AreOwn (IsOwnRow (IsOfOwn cells IsOwn) count) rows
 
 -- each row of each table is one that this product writes
 pub record AreOwnRows (t : Contents) : Type 0 where
@@ -134,9 +141,28 @@ IsOfStore ForeignRow = ⊥
 abbrev pub NotForeign : {X : Type 0} → Result X RowError → Type 0
 NotForeign r = IfErr r IsOfStore
 
--- the call did not give ForeignRow if the cells are those of a value that this product writes
+-- memory ran out
+abbrev pub IsMemory : RowError → Type 0
+IsMemory e = e ≡ Sql (SqliteFailure OutOfMemory)
+
+-- the call failed only where memory ran out
+abbrev pub OnlyMemory : {X : Type 0} → Result X RowError → Type 0
+OnlyMemory r = IfErr r IsMemory
+
+-- the same if the cells are those of a value that this product writes
 abbrev pub SparesOwn : {P C X : Type 0} → (P → C) → (P → Type 0) → C → Result X RowError → Type 0
-SparesOwn {P = P} cells IsOwn shown r = (p : P) → IsOwn p → cells p ≡ shown → NotForeign r
+SparesOwn {P = P} cells IsOwn shown r = (p : P) → IsOwn p → cells p ≡ shown → OnlyMemory r
+
+-- an error has a cause, and none of them is a foreign row
+abbrev pub IsCaused : State → State → RowError → Type 0
+IsCaused old new (Sql e) = HasCause old new e
+IsCaused old new ForeignRow = ⊥
+
+-- A call fails only for a cause, unless the database does not hold rows of which Own is true.
+abbrev pub BlamesCause : {X : Type 0} → (Database → Contents → Type 0) → (Contents → Type 0) → State → State
+    → Result X RowError → Type 0
+BlamesCause Holds Own old new r =
+    HasCleanDisk new → (t : Contents) → Holds old.now t → Own t → IfErr r (IsCaused old new)
 
 -- A call gives ForeignRow only if the database does not hold rows of which Own is true.
 abbrev pub BlamesForeign : {X : Type 0} → (Database → Contents → Type 0) → (Contents → Type 0) → State → State

@@ -1,5 +1,6 @@
 -- The rows of portal_requests as they are found and read.
-use Rattle.std.specs.Prelude.{ℕ, List, [], ◌∷◌, option_map}
+use Rattle.std.specs.Prelude.{ℕ, ◌<◌, ◌^◌, List, [], ◌∷◌, option_map, IfSome}
+use Rattle.std.specs.Str.{IsUtf8}
 use Rattle.std.specs.String.{string_bytes}
 use Rattle.portal_ledger.specs.RequestRow.{RequestRow, cells}
 use Rattle.sqlite.specs.Order.{Row}
@@ -14,6 +15,19 @@ key_of k = (k.caller, k.number)
 -- the key as SELECT gives it
 abbrev pub key_cells : List ℕ × List ℕ → Row
 key_cells key = Text key.0 ∷ Text key.1 ∷ []
+
+-- both are UTF-8
+abbrev pub AreTexts : List ℕ × List ℕ → Type 0
+AreTexts key = IsUtf8 key.0 × IsUtf8 key.1
+
+-- a row that is read: its texts are UTF-8, and the kind of its answer is below 2^32
+pub record IsReadable (k : RequestRow) : Type 0 where
+  pub caller : IsUtf8 k.caller
+  pub number : IsUtf8 k.number
+  pub method : IsUtf8 k.method
+  pub path : IsUtf8 k.path
+  pub kind : k.answer.kind < 2 ^ 32
+  pub word : IfSome k.answer.word IsUtf8
 
 -- a key that was read
 abbrev pub key_read : RequestKey → List ℕ × List ℕ

@@ -1,6 +1,6 @@
 //! Reads a row of each table as a value, by the trait `FromRow`.
 
-ghost use Rattle.std.specs.Prelude.{◌≡◌, ℕ, IfOk};
+ghost use Rattle.std.specs.Prelude.{◌≡◌, ◌≤◌, ℕ, length, IfOk};
 ghost use Rattle.sqlite.specs.Order.{Row as Cells};
 ghost use Rattle.portal_model.specs.Device.{IsDevice};
 ghost use Rattle.portal_tables_sql.specs.Finds.{columns};
@@ -8,7 +8,7 @@ ghost use Rattle.portal_tables_rows.specs.Contents.{head_cells, plan_cells, batc
 ghost use Rattle.portal_tables_rows.specs.Contents.{session_cells, count_cells, total_cells};
 ghost use Rattle.portal_tables_rows.specs.Contents.{whole_voucher_cells, whole_session_cells};
 ghost use Rattle.portal_tables_rows.specs.Foreign.{IsOfOwn, IsOwnBatch, IsOwnCount, IsOwnHead, IsOwnPlan};
-ghost use Rattle.portal_tables_rows.specs.Foreign.{IsOwnSession, IsOwnTotal, IsOwnVoucher, NotForeign};
+ghost use Rattle.portal_tables_rows.specs.Foreign.{IsOwnSession, IsOwnTotal, IsOwnVoucher, OnlyMemory};
 ghost use Rattle.portal_tables_rows.specs.Foreign.{IsOwnWholeSession, IsOwnWholeVoucher};
 ghost use Rattle.portal_tables_rows.specs.Read.{
   head_read,
@@ -23,7 +23,8 @@ ghost use Rattle.portal_tables_rows.specs.Steps.{ends_row};
 use crate::column_values::Total;
 use crate::rows::{
     CountValue, HeadValue, OldSession, OldVoucher, RowError, SessionValue, VoucherValue, code_in,
-    device_in, flag_in, id_in, moment_in, moment_or_null_in,
+    device_in, flag_in, id_in, moment_in, moment_or_null_in, number_in, number_or_null_in,
+    signed_or_null_in,
 };
 use portal_model::plan::Plan;
 use portal_model::record::Batch;
@@ -46,7 +47,7 @@ pub trait FromRow: Sized {
     fn from_row(row: &Row) -> Result<Self, RowError>
         ensures cells { IfOk result (λ x. cells x ≡ columns width row.now) }
         ensures proper { IfOk result proper }
-        ensures own { own (columns width row.now) → NotForeign result };
+        ensures own { own (columns width row.now) → width ≤ length row.now → OnlyMemory result };
 }
 
 impl FromRow for HeadValue {
@@ -60,15 +61,15 @@ impl FromRow for HeadValue {
 
     /// Reads the row of `portal_head`. Fails with `ForeignRow` if its id is not 1.
     fn from_row(row: &Row) -> Result<HeadValue, RowError> {
-        let id: u64 = row.get(0)?;
+        let id = number_in(row, 0)?;
         if id != 1 {
             return Err(RowError::ForeignRow);
         }
         Ok(HeadValue {
-            schema_version: row.get(1)?,
+            schema_version: number_in(row, 1)?,
             last: moment_in(row, 2)?,
-            grants: row.get(3)?,
-            sessions: row.get(4)?,
+            grants: number_in(row, 3)?,
+            sessions: number_in(row, 4)?,
         })
     }
 }
@@ -85,11 +86,11 @@ impl FromRow for Plan {
     /// Reads a row of `portal_plans`. Fails with `ForeignRow` if the plan is not within the limits.
     fn from_row(row: &Row) -> Result<Plan, RowError> {
         let id = id_in(row, 0)?;
-        let price = row.get(1)?;
-        let uses = row.get(2)?;
-        let seconds = row.get(3)?;
-        let bytes = row.get(4)?;
-        let shelf_days = row.get(5)?;
+        let price = number_in(row, 1)?;
+        let uses = number_in(row, 2)?;
+        let seconds = number_in(row, 3)?;
+        let bytes = number_in(row, 4)?;
+        let shelf_days = number_in(row, 5)?;
         let extend = flag_in(row, 6)?;
         let plan = Plan::new(id, price, uses, seconds, bytes, shelf_days, extend);
         plan.map_err(|_| RowError::ForeignRow)
@@ -112,7 +113,7 @@ impl FromRow for Batch {
             plan: id_in(row, 1)?,
             issued: moment_in(row, 2)?,
             expires: moment_in(row, 3)?,
-            size: row.get(4)?,
+            size: number_in(row, 4)?,
         })
     }
 }
@@ -131,11 +132,11 @@ impl FromRow for VoucherValue {
         Ok(VoucherValue {
             code: code_in(row, 0)?,
             batch: id_in(row, 1)?,
-            place: row.get(2)?,
+            place: number_in(row, 2)?,
             sold: moment_or_null_in(row, 3)?,
             refunded: moment_or_null_in(row, 4)?,
-            amount: row.get(5)?,
-            redeemed: row.get(6)?,
+            amount: number_or_null_in(row, 5)?,
+            redeemed: number_in(row, 6)?,
         })
     }
 }
@@ -154,10 +155,10 @@ impl FromRow for OldVoucher {
         Ok(OldVoucher {
             code: code_in(row, 0)?,
             batch: id_in(row, 1)?,
-            place: row.get(2)?,
+            place: number_in(row, 2)?,
             sold: moment_or_null_in(row, 3)?,
             refunded: moment_or_null_in(row, 4)?,
-            amount: row.get(5)?,
+            amount: number_or_null_in(row, 5)?,
         })
     }
 }
@@ -174,14 +175,14 @@ impl FromRow for SessionValue {
     /// Reads a row of `portal_sessions`.
     fn from_row(row: &Row) -> Result<SessionValue, RowError> {
         Ok(SessionValue {
-            number: row.get(0)?,
+            number: number_in(row, 0)?,
             device: device_in(row, 1)?,
             plan: id_in(row, 2)?,
             opened: moment_in(row, 3)?,
-            used: row.get(4)?,
+            used: number_in(row, 4)?,
             closed: moment_or_null_in(row, 5)?,
             ends: moment_or_null_in(row, 6)?,
-            remaining: row.get(7)?,
+            remaining: signed_or_null_in(row, 7)?,
         })
     }
 }
@@ -198,11 +199,11 @@ impl FromRow for OldSession {
     /// Reads a row of `portal_sessions` without its total.
     fn from_row(row: &Row) -> Result<OldSession, RowError> {
         Ok(OldSession {
-            number: row.get(0)?,
+            number: number_in(row, 0)?,
             device: device_in(row, 1)?,
             plan: id_in(row, 2)?,
             opened: moment_in(row, 3)?,
-            used: row.get(4)?,
+            used: number_in(row, 4)?,
             closed: moment_or_null_in(row, 5)?,
         })
     }
@@ -221,7 +222,7 @@ impl FromRow for CountValue {
     fn from_row(row: &Row) -> Result<CountValue, RowError> {
         Ok(CountValue {
             code: code_in(row, 0)?,
-            redeemed: row.get(1)?,
+            redeemed: number_in(row, 1)?,
         })
     }
 }
@@ -238,9 +239,9 @@ impl FromRow for Total {
     /// Reads the end and the remaining allowance of a session.
     fn from_row(row: &Row) -> Result<Total, RowError> {
         Ok(Total {
-            number: row.get(0)?,
+            number: number_in(row, 0)?,
             ends: moment_or_null_in(row, 1)?,
-            remaining: row.get(2)?,
+            remaining: signed_or_null_in(row, 2)?,
         })
     }
 }

@@ -5,7 +5,7 @@ ghost use Rattle.portal_tables_rows.specs.Foreign.{IsOfOwn, IsOwnGrant};
 ghost use Rattle.portal_tables_rows.specs.Sums.{grant_read};
 
 use crate::from_row::FromRow;
-use crate::rows::{RowError, code_in, moment_in};
+use crate::rows::{RowError, code_in, moment_in, number_in};
 use portal_codes::Code;
 use portal_model::moment::Moment;
 use sqlite::Row;
@@ -33,12 +33,12 @@ impl FromRow for GrantValue {
     /// Reads a row of `portal_grants`.
     fn from_row(row: &Row) -> Result<GrantValue, RowError> {
         Ok(GrantValue {
-            number: row.get(0)?,
+            number: number_in(row, 0)?,
             code: code_in(row, 1)?,
-            session: row.get(2)?,
+            session: number_in(row, 2)?,
             moment: moment_in(row, 3)?,
-            seconds: row.get(4)?,
-            bytes: row.get(5)?,
+            seconds: number_in(row, 4)?,
+            bytes: number_in(row, 5)?,
         })
     }
 }

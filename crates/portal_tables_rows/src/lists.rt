@@ -5,7 +5,7 @@ ghost use Rattle.std.specs.Prelude.{◌≡◌, IfOk, IsSome, List, map, filter, 
 ghost use Rattle.portal_codes.specs.Code.{IsCode, text_of};
 ghost use Rattle.portal_model.specs.Device.{IsDevice};
 ghost use Rattle.portal_model.specs.Rows.{VoucherRow};
-ghost use Rattle.portal_tables_rows.specs.Foreign.{AreOwn, IsOwnRefund, IsOwnTotal, IsOwnVoucher, NotForeign};
+ghost use Rattle.portal_tables_rows.specs.Foreign.{AreOwn, IsOwnRefund, IsOwnTotal, IsOwnVoucher, OnlyMemory};
 ghost use Rattle.portal_tables_rows.specs.Foreign.{IsOfOwn, IsOwnSession};
 ghost use Rattle.portal_tables_rows.specs.Selects.{ReadsRow};
 ghost use Rattle.portal_tables_rows.specs.Lists.{Lists, ListsAs, ListsOpen, is_within};
@@ -68,7 +68,7 @@ pub(crate) fn codes_of_vouchers(
     ensures read { IfOk result
         (λ codes. map text_of codes.items ≡ map (λ v. (voucher_read v).code) vouchers.now) }
     ensures codes { IfOk result (λ codes. All IsCode codes.items) }
-    ensures memory { NotForeign result }
+    ensures memory { OnlyMemory result }
 {
     let mut codes = Vec::new(alloc);
     for voucher in vouchers {
@@ -82,7 +82,7 @@ pub(crate) fn codes_of_vouchers(
 /// Returns the sale of a voucher. Fails with `ForeignRow` if the voucher was not sold.
 fn sale_of(voucher: &VoucherValue) -> Result<SaleValue, RowError>
     ensures read { IfOk result (λ sale. sale_read sale ≡ sale_columns (voucher_read voucher.now)) }
-    ensures own { IsSome (voucher_read voucher.now).sold → NotForeign result }
+    ensures own { IsSome (voucher_read voucher.now).sold → OnlyMemory result }
 {
     match voucher.sold {
         Some(at) => Ok(SaleValue {
@@ -97,7 +97,7 @@ fn sale_of(voucher: &VoucherValue) -> Result<SaleValue, RowError>
 fn sales_of_vouchers(alloc: Global, vouchers: &[VoucherValue]) -> Result<Vec<SaleValue>, RowError>
     ensures read { IfOk result
         (λ sales. map sale_read sales.items ≡ map (λ v. sale_columns (voucher_read v)) vouchers.now) }
-    ensures own { AreOwn (λ v. IsSome v.sold) (map voucher_read vouchers.now) → NotForeign result }
+    ensures own { AreOwn (λ v. IsSome v.sold) (map voucher_read vouchers.now) → OnlyMemory result }
 {
     let mut sales = Vec::new(alloc);
     for voucher in vouchers {
@@ -110,7 +110,7 @@ fn sales_of_vouchers(alloc: Global, vouchers: &[VoucherValue]) -> Result<Vec<Sal
 /// the voucher was not refunded.
 fn refund_of(voucher: &VoucherValue) -> Result<(Moment, u64), RowError>
     ensures read { IfOk result (λ refund. refund_read refund ≡ refund_columns (voucher_read voucher.now)) }
-    ensures own { IsOwnRefund (voucher_read voucher.now) → NotForeign result }
+    ensures own { IsOwnRefund (voucher_read voucher.now) → OnlyMemory result }
 {
     match (voucher.refunded, voucher.amount) {
         (Some(at), Some(amount)) => Ok((at, amount)),
@@ -126,7 +126,7 @@ fn refunds_of_vouchers(
 ) -> Result<Vec<(Moment, u64)>, RowError>
     ensures read { IfOk result
         (λ refunds. map refund_read refunds.items ≡ map (λ v. refund_columns (voucher_read v)) vouchers.now) }
-    ensures own { AreOwn IsOwnRefund (map voucher_read vouchers.now) → NotForeign result }
+    ensures own { AreOwn IsOwnRefund (map voucher_read vouchers.now) → OnlyMemory result }
 {
     let mut refunds = Vec::new(alloc);
     for voucher in vouchers {

@@ -7,6 +7,7 @@ ghost use Rattle.portal_tables_rows.specs.Selects.{ReadsMany, ReadsOne};
 
 use crate::from_row::FromRow;
 use crate::rows::RowError;
+use portal_model::proof::witness;
 use sqlite::types::ValueRef;
 use sqlite::{Alter, Connection, Error, ErrorCode};
 use std::alloc::Global;
@@ -42,12 +43,14 @@ pub fn read_many<S: Alter, T: FromRow + Drop>(
 {
     let mut values = Vec::new(alloc);
     let mut rows = conn.query(sql, params)?;
-    'rows: for _ in 0..u64::MAX {
+    'rows: for _ in 0..1u128 << 64 {
         let Some(row) = rows.next()? else {
             return Ok(values);
         };
         values.push(T::from_row(row)?)?;
     }
+    // A vector has fewer than 2^64 values, so this is not reached.
+    witness(values.len());
     Err(RowError::Sql(Error::SqliteFailure(ErrorCode::TooBig)))
 }
 

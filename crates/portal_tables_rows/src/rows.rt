@@ -1,14 +1,15 @@
 //! The values that are read from rows, the readers of single columns, and the errors of reading.
 
-ghost use Rattle.std.specs.Prelude.{◌≡◌, IfOk};
+ghost use Rattle.std.specs.Prelude.{◌≡◌, ◌<◌, ◌^◌, length, string_bytes, option_map, IfOk, IfSome};
+ghost use Rattle.std.specs.Str.{IsUtf8};
 ghost use Rattle.portal_codes.specs.Code.{IsCode};
 ghost use Rattle.portal_ledger.specs.RequestRow.{boolean};
 ghost use Rattle.sqlite.specs.Order.{column};
-ghost use Rattle.sqlite.specs.declared.types.Value.TheVariants.{Text};
+ghost use Rattle.sqlite.specs.declared.types.Value.TheVariants.{Blob, Text};
 ghost use Rattle.portal_codes.specs.Code.{text_of};
 ghost use Rattle.portal_model.specs.Device.{IsDevice, text_of_device};
 ghost use Rattle.portal_tables_sql.specs.Stored.{number, or_null};
-ghost use Rattle.portal_tables_rows.specs.Contents.{flag};
+ghost use Rattle.portal_tables_rows.specs.Contents.{flag, signed_or_null, text_or_null};
 ghost use Rattle.sqlite.specs.declared.error.Error.TheVariants.{SqliteFailure};
 ghost use Rattle.sqlite.specs.declared.error.ErrorCode.TheVariants.{OutOfMemory};
 ghost use Rattle.portal_model.specs.IdText.{IsIdText};
@@ -18,7 +19,7 @@ ghost use Rattle.portal_tables_rows.specs.Foreign.{
   IsMomentIfSome,
   IsPrintedCode,
   IsPrintedDevice,
-  NotForeign,
+  OnlyMemory,
   SparesOwn,
 };
 
@@ -132,7 +133,7 @@ pub struct CountValue {
 pub(crate) fn parse_printed_code(text: &str) -> Result<Code, RowError>
     ensures text { IfOk result (λ code. text_of code ≡ text.now) }
     ensures code { IfOk result IsCode }
-    ensures own { IsPrintedCode text.now → NotForeign result }
+    ensures own { IsPrintedCode text.now → OnlyMemory result }
 {
     let Ok(code) = Code::read(text) else {
         return Err(RowError::ForeignRow);
@@ -149,7 +150,7 @@ pub(crate) fn parse_printed_code(text: &str) -> Result<Code, RowError>
 pub(crate) fn parse_printed_device(text: &str) -> Result<Device, RowError>
     ensures text { IfOk result (λ device. text_of_device device ≡ text.now) }
     ensures device { IfOk result IsDevice }
-    ensures own { IsPrintedDevice text.now → NotForeign result }
+    ensures own { IsPrintedDevice text.now → OnlyMemory result }
 {
     let Ok(device) = Device::read(text) else {
         return Err(RowError::ForeignRow);
@@ -174,12 +175,71 @@ pub(crate) fn parse_boolean(number: u64) -> Result<bool, RowError>
     }
 }
 
+/// Reads the text in column `at`.
+pub(crate) fn text_in(row: &Row, at: usize) -> Result<String, RowError>
+    ensures column { IfOk result (λ text. column row.now at ≡ Text (string_bytes text)) }
+    ensures own { SparesOwn Text IsUtf8 (column row.now at) result }
+{
+    Ok(row.get(at)?)
+}
+
+/// Reads the text in column `at`, or `None` if it is NULL.
+pub(crate) fn text_or_null_in(row: &Row, at: usize) -> Result<Option<String>, RowError>
+    ensures column { IfOk result (λ text. column row.now at ≡ text_or_null (option_map string_bytes text)) }
+    ensures own { at < length row.now
+        → SparesOwn text_or_null (λ text. IfSome text IsUtf8) (column row.now at) result }
+{
+    Ok(row.get(at)?)
+}
+
+/// Reads the bytes in column `at`.
+pub(crate) fn bytes_in(row: &Row, at: usize) -> Result<Vec<u8>, RowError>
+    ensures column { IfOk result (λ bytes. column row.now at ≡ Blob bytes.items) }
+    ensures own { SparesOwn Blob (λ _. Unit {0}) (column row.now at) result }
+{
+    Ok(row.get(at)?)
+}
+
+/// Reads the number below 2^32 in column `at`.
+pub(crate) fn small_number_in(row: &Row, at: usize) -> Result<u32, RowError>
+    ensures column { IfOk result (λ n. column row.now at ≡ number n) }
+    ensures own { SparesOwn number (λ n. n < 2 ^ 32) (column row.now at) result }
+{
+    Ok(row.get(at)?)
+}
+
+/// Reads the number in column `at`.
+pub(crate) fn number_in(row: &Row, at: usize) -> Result<u64, RowError>
+    ensures column { IfOk result (λ n. column row.now at ≡ number n) }
+    ensures own { SparesOwn number (λ _. Unit {0}) (column row.now at) result }
+{
+    Ok(row.get(at)?)
+}
+
+/// Reads the number in column `at`, or `None` if it is NULL.
+pub(crate) fn number_or_null_in(row: &Row, at: usize) -> Result<Option<u64>, RowError>
+    ensures column { IfOk result (λ n. column row.now at ≡ or_null n) }
+    ensures own { at < length row.now
+        → SparesOwn or_null (λ _. Unit {0}) (column row.now at) result }
+{
+    Ok(row.get(at)?)
+}
+
+/// Reads the number with a sign in column `at`, or `None` if it is NULL.
+pub(crate) fn signed_or_null_in(row: &Row, at: usize) -> Result<Option<i64>, RowError>
+    ensures column { IfOk result (λ n. column row.now at ≡ signed_or_null n) }
+    ensures own { at < length row.now
+        → SparesOwn signed_or_null (λ _. Unit {0}) (column row.now at) result }
+{
+    Ok(row.get(at)?)
+}
+
 /// Reads the id in column `at`. Fails with `ForeignRow` if the text is not an id.
 pub fn id_in(row: &Row, at: usize) -> Result<Id, RowError>
     ensures column { IfOk result (λ id. column row.now at ≡ Text id) }
     ensures own { SparesOwn Text IsIdText (column row.now at) result }
 {
-    let text: String = row.get(at)?;
+    let text = text_in(row, at)?;
     Id::read(&text).ok_or(RowError::ForeignRow)
 }
 
@@ -188,7 +248,7 @@ pub fn code_in(row: &Row, at: usize) -> Result<Code, RowError>
     ensures column { IfOk result (λ code. column row.now at ≡ Text (text_of code)) }
     ensures own { SparesOwn Text IsPrintedCode (column row.now at) result }
 {
-    let text: String = row.get(at)?;
+    let text = text_in(row, at)?;
     parse_printed_code(&text)
 }
 
@@ -199,7 +259,7 @@ pub(crate) fn device_in(row: &Row, at: usize) -> Result<Device, RowError>
     ensures device { IfOk result IsDevice }
     ensures own { SparesOwn Text IsPrintedDevice (column row.now at) result }
 {
-    let text: String = row.get(at)?;
+    let text = text_in(row, at)?;
     parse_printed_device(&text)
 }
 
@@ -208,7 +268,7 @@ pub fn moment_in(row: &Row, at: usize) -> Result<Moment, RowError>
     ensures column { IfOk result (λ moment. column row.now at ≡ number moment) }
     ensures own { SparesOwn number IsMomentCell (column row.now at) result }
 {
-    let seconds: u64 = row.get(at)?;
+    let seconds = number_in(row, at)?;
     Moment::new(seconds).ok_or(RowError::ForeignRow)
 }
 
@@ -216,9 +276,9 @@ pub fn moment_in(row: &Row, at: usize) -> Result<Moment, RowError>
 /// the greatest time.
 pub(crate) fn moment_or_null_in(row: &Row, at: usize) -> Result<Option<Moment>, RowError>
     ensures column { IfOk result (λ moment. column row.now at ≡ or_null moment) }
-    ensures own { SparesOwn or_null IsMomentIfSome (column row.now at) result }
+    ensures own { at < length row.now → SparesOwn or_null IsMomentIfSome (column row.now at) result }
 {
-    let seconds: Option<u64> = row.get(at)?;
+    let seconds = number_or_null_in(row, at)?;
     match seconds {
         Some(seconds) => Ok(Some(Moment::new(seconds).ok_or(RowError::ForeignRow)?)),
         None => Ok(None),
@@ -230,5 +290,5 @@ pub(crate) fn flag_in(row: &Row, at: usize) -> Result<bool, RowError>
     ensures column { IfOk result (λ b. column row.now at ≡ flag b) }
     ensures own { SparesOwn flag (λ _. Unit {0}) (column row.now at) result }
 {
-    parse_boolean(row.get(at)?)
+    parse_boolean(number_in(row, at)?)
 }

@@ -10,13 +10,16 @@ ghost use Rattle.portal_tables_rows.specs.Foreign.{
   IsMomentCell,
   IsOwnAnswer,
   IsOwnRequest,
-  NotForeign,
+  OnlyMemory,
 };
-ghost use Rattle.portal_tables_rows.specs.Foreign.{SparesOwn};
-ghost use Rattle.portal_tables_rows.specs.Requests.{key_cells, key_read, request_read};
+ghost use Rattle.portal_tables_rows.specs.Foreign.{IsOfOwn, SparesOwn};
+ghost use Rattle.portal_tables_rows.specs.Requests.{AreTexts, IsReadable, key_cells, key_read, request_read};
 
 use crate::from_row::FromRow;
-use crate::rows::{RowError, parse_boolean, parse_printed_code, parse_printed_device};
+use crate::rows::{
+    RowError, bytes_in, number_in, number_or_null_in, parse_boolean, parse_printed_code,
+    parse_printed_device, small_number_in, text_in, text_or_null_in,
+};
 use portal_ledger::caller::Caller;
 use portal_ledger::request::{KeptRequest, RequestMark, RequestNumber};
 use portal_model::change::Answer;
@@ -39,13 +42,13 @@ impl FromRow for RequestKey {
 
     ghost proper = { λ _. Unit {0} };
 
-    ghost own = { λ _. Unit {0} };
+    ghost own = { IsOfOwn key_cells AreTexts };
 
     /// Reads the two columns of a key. It does not fail with `ForeignRow`.
     fn from_row(row: &Row) -> Result<RequestKey, RowError> {
         Ok(RequestKey {
-            caller: row.get(0)?,
-            number: row.get(1)?,
+            caller: text_in(row, 0)?,
+            number: text_in(row, 1)?,
         })
     }
 }
@@ -72,22 +75,22 @@ impl FromRow for StoredRequest {
 
     ghost proper = { λ _. Unit {0} };
 
-    // Each row is read: `parse_kept_request` says which are of this product.
-    ghost own = { λ _. Unit {0} };
+    // Each such row is read: `parse_kept_request` says which are of this product.
+    ghost own = { IsOfOwn request_cells IsReadable };
 
     /// Reads a row of `portal_requests`. It does not fail with `ForeignRow`.
     fn from_row(row: &Row) -> Result<StoredRequest, RowError> {
         Ok(StoredRequest {
-            caller: row.get(0)?,
-            number: row.get(1)?,
-            method: row.get(2)?,
-            path: row.get(3)?,
-            body: row.get(4)?,
-            kind: row.get(5)?,
-            word: row.get(6)?,
-            n1: row.get(7)?,
-            n2: row.get(8)?,
-            n3: row.get(9)?,
+            caller: text_in(row, 0)?,
+            number: text_in(row, 1)?,
+            method: text_in(row, 2)?,
+            path: text_in(row, 3)?,
+            body: bytes_in(row, 4)?,
+            kind: small_number_in(row, 5)?,
+            word: text_or_null_in(row, 6)?,
+            n1: number_in(row, 7)?,
+            n2: number_or_null_in(row, 8)?,
+            n3: number_or_null_in(row, 9)?,
         })
     }
 }
@@ -114,7 +117,7 @@ fn parse_issue_answer(word: &str, count: u64, expires: u64) -> Result<Answer, Ro
     ensures cells { IfOk result (λ answer.
         cells_of answer ≡ cells 2 (Some word.now) count (Some expires) None) }
     ensures typed { IfOk result IsAnswerTyped }
-    ensures own { IsIdText word.now → IsMomentCell expires → NotForeign result }
+    ensures own { IsIdText word.now → IsMomentCell expires → OnlyMemory result }
 {
     let Some(batch) = Id::read(word) else {
         return Err(RowError::ForeignRow);
@@ -167,7 +170,7 @@ fn parse_answer(row: &StoredRequest) -> Result<Answer, RowError>
 pub fn parse_kept_request(alloc: Global, row: &StoredRequest) -> Result<KeptRequest, RowError>
     ensures row { IfOk result (λ kept. row_of_request kept ≡ request_read row.now) }
     ensures typed { IfOk result IsKeptTyped }
-    ensures own { IsOwnRequest (request_read row.now) → NotForeign result }
+    ensures own { IsOwnRequest (request_read row.now) → OnlyMemory result }
 {
     let caller = parse_caller(row.caller.as_str())?;
     let Some(number) = RequestNumber::read(row.number.as_str()) else {

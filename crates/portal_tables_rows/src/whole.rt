@@ -3,7 +3,7 @@
 
 ghost use Rattle.std.specs.Prelude.{◌≡◌, map};
 ghost use Rattle.portal_tables_rows.specs.Foreign.{AreOwn, IsOwnBatch, IsOwnCount, IsOwnGrant, IsOwnPlan};
-ghost use Rattle.portal_tables_rows.specs.Foreign.{IsOwnSession};
+ghost use Rattle.portal_tables_rows.specs.Foreign.{IsOwnRequest, IsOwnSession};
 ghost use Rattle.portal_tables_rows.specs.Foreign.{IsOwnTotal, IsOwnVoucher};
 ghost use Rattle.portal_tables_rows.specs.Selects.{ReadsRow};
 ghost use Rattle.portal_tables_rows.specs.Steps.{ends_row};
@@ -116,7 +116,7 @@ pub fn read_all_request_keys<S: Alter>(
 ) -> Result<Vec<RequestKey>, RowError>
     ensures { ReadsRow S.Store conn.old conn.new result
         (λ t keys. map key_read keys.items ≡ map key_of t.requests)
-        (λ t. Unit {0}) }
+        (λ t. AreOwn IsOwnRequest t.requests) }
 {
     read_table(conn, SELECT_ALL_REQUEST_KEYS)
 }

@@ -71,7 +71,8 @@ plain_asks sql schema plain c is = (subst IsPlain is plain).0
 
 -- a query that is known
 pub means_simple : (schema : Schema) (sql : List ℕ) (body : Query) (names : List (List ℕ))
-    → Means schema sql (Select (record { lets = []; body = body }) names) → IsSimple (understood schema sql)
+    → {n : ℕ} → Means schema sql n (Select (record { lets = []; body = body }) names)
+    → IsSimple (understood schema sql)
 means_simple schema sql body names m = go (understood schema sql) m.is m.plain
   where
     go : (r : Result Compiled CompileError) → command_of r ≡ Select (record { lets = []; body = body }) names

@@ -11,7 +11,7 @@ pub makes_head : IsCreate create_head (head 0)
 unfolding everything
 makes_head = record {
   statement = _;
-  text = record { parsed = _; read = refl; is = refl; timeless = refl; counted = refl };
+  text = record { parsed = _; read = refl; is = refl; timeless = refl; counted = refl; whole = refl };
   untimed = λ schema. refl;
   unshown = λ schema base. refl;
   makes = λ schema base. refl;
@@ -23,7 +23,7 @@ pub makes_plans : IsCreate create_plans (plans 0)
 unfolding everything
 makes_plans = record {
   statement = _;
-  text = record { parsed = _; read = refl; is = refl; timeless = refl; counted = refl };
+  text = record { parsed = _; read = refl; is = refl; timeless = refl; counted = refl; whole = refl };
   untimed = λ schema. refl;
   unshown = λ schema base. refl;
   makes = λ schema base. refl;
@@ -35,7 +35,7 @@ pub makes_batches : IsCreate create_batches (batches 0)
 unfolding everything
 makes_batches = record {
   statement = _;
-  text = record { parsed = _; read = refl; is = refl; timeless = refl; counted = refl };
+  text = record { parsed = _; read = refl; is = refl; timeless = refl; counted = refl; whole = refl };
   untimed = λ schema. refl;
   unshown = λ schema base. refl;
   makes = λ schema base. refl;
@@ -47,7 +47,7 @@ pub makes_vouchers : IsCreate create_vouchers (vouchers 0)
 unfolding everything
 makes_vouchers = record {
   statement = _;
-  text = record { parsed = _; read = refl; is = refl; timeless = refl; counted = refl };
+  text = record { parsed = _; read = refl; is = refl; timeless = refl; counted = refl; whole = refl };
   untimed = λ schema. refl;
   unshown = λ schema base. refl;
   makes = λ schema base. refl;
@@ -59,7 +59,7 @@ pub makes_sessions : IsCreate create_sessions (sessions 0)
 unfolding everything
 makes_sessions = record {
   statement = _;
-  text = record { parsed = _; read = refl; is = refl; timeless = refl; counted = refl };
+  text = record { parsed = _; read = refl; is = refl; timeless = refl; counted = refl; whole = refl };
   untimed = λ schema. refl;
   unshown = λ schema base. refl;
   makes = λ schema base. refl;
@@ -71,7 +71,7 @@ pub makes_grants : IsCreate create_grants (grants 0)
 unfolding everything
 makes_grants = record {
   statement = _;
-  text = record { parsed = _; read = refl; is = refl; timeless = refl; counted = refl };
+  text = record { parsed = _; read = refl; is = refl; timeless = refl; counted = refl; whole = refl };
   untimed = λ schema. refl;
   unshown = λ schema base. refl;
   makes = λ schema base. refl;
@@ -83,7 +83,7 @@ pub makes_counts : IsCreate create_counts (counts 0)
 unfolding everything
 makes_counts = record {
   statement = _;
-  text = record { parsed = _; read = refl; is = refl; timeless = refl; counted = refl };
+  text = record { parsed = _; read = refl; is = refl; timeless = refl; counted = refl; whole = refl };
   untimed = λ schema. refl;
   unshown = λ schema base. refl;
   makes = λ schema base. refl;
@@ -95,7 +95,7 @@ pub makes_totals : IsCreate create_totals (totals 0)
 unfolding everything
 makes_totals = record {
   statement = _;
-  text = record { parsed = _; read = refl; is = refl; timeless = refl; counted = refl };
+  text = record { parsed = _; read = refl; is = refl; timeless = refl; counted = refl; whole = refl };
   untimed = λ schema. refl;
   unshown = λ schema base. refl;
   makes = λ schema base. refl;
@@ -107,7 +107,7 @@ pub makes_requests : IsCreate create_requests (requests 0)
 unfolding everything
 makes_requests = record {
   statement = _;
-  text = record { parsed = _; read = refl; is = refl; timeless = refl; counted = refl };
+  text = record { parsed = _; read = refl; is = refl; timeless = refl; counted = refl; whole = refl };
   untimed = λ schema. refl;
   unshown = λ schema base. refl;
   makes = λ schema base. refl;

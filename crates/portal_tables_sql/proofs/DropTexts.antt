@@ -11,63 +11,63 @@ pub drops_table : (x : OurTable) → IsDrop (drop_of x) (name_of x)
 unfolding everything
 drops_table our.Head = record {
   statement = _;
-  text = record { parsed = _; read = refl; is = refl; timeless = refl; counted = refl };
+  text = record { parsed = _; read = refl; is = refl; timeless = refl; counted = refl; whole = refl };
   untimed = λ schema. refl;
   unshown = λ schema base. refl;
   drops = λ schema at named base. simp (named) refl;
 }
 drops_table our.Plans = record {
   statement = _;
-  text = record { parsed = _; read = refl; is = refl; timeless = refl; counted = refl };
+  text = record { parsed = _; read = refl; is = refl; timeless = refl; counted = refl; whole = refl };
   untimed = λ schema. refl;
   unshown = λ schema base. refl;
   drops = λ schema at named base. simp (named) refl;
 }
 drops_table our.Batches = record {
   statement = _;
-  text = record { parsed = _; read = refl; is = refl; timeless = refl; counted = refl };
+  text = record { parsed = _; read = refl; is = refl; timeless = refl; counted = refl; whole = refl };
   untimed = λ schema. refl;
   unshown = λ schema base. refl;
   drops = λ schema at named base. simp (named) refl;
 }
 drops_table our.Vouchers = record {
   statement = _;
-  text = record { parsed = _; read = refl; is = refl; timeless = refl; counted = refl };
+  text = record { parsed = _; read = refl; is = refl; timeless = refl; counted = refl; whole = refl };
   untimed = λ schema. refl;
   unshown = λ schema base. refl;
   drops = λ schema at named base. simp (named) refl;
 }
 drops_table our.Sessions = record {
   statement = _;
-  text = record { parsed = _; read = refl; is = refl; timeless = refl; counted = refl };
+  text = record { parsed = _; read = refl; is = refl; timeless = refl; counted = refl; whole = refl };
   untimed = λ schema. refl;
   unshown = λ schema base. refl;
   drops = λ schema at named base. simp (named) refl;
 }
 drops_table our.Grants = record {
   statement = _;
-  text = record { parsed = _; read = refl; is = refl; timeless = refl; counted = refl };
+  text = record { parsed = _; read = refl; is = refl; timeless = refl; counted = refl; whole = refl };
   untimed = λ schema. refl;
   unshown = λ schema base. refl;
   drops = λ schema at named base. simp (named) refl;
 }
 drops_table our.Counts = record {
   statement = _;
-  text = record { parsed = _; read = refl; is = refl; timeless = refl; counted = refl };
+  text = record { parsed = _; read = refl; is = refl; timeless = refl; counted = refl; whole = refl };
   untimed = λ schema. refl;
   unshown = λ schema base. refl;
   drops = λ schema at named base. simp (named) refl;
 }
 drops_table our.Totals = record {
   statement = _;
-  text = record { parsed = _; read = refl; is = refl; timeless = refl; counted = refl };
+  text = record { parsed = _; read = refl; is = refl; timeless = refl; counted = refl; whole = refl };
   untimed = λ schema. refl;
   unshown = λ schema base. refl;
   drops = λ schema at named base. simp (named) refl;
 }
 drops_table our.Requests = record {
   statement = _;
-  text = record { parsed = _; read = refl; is = refl; timeless = refl; counted = refl };
+  text = record { parsed = _; read = refl; is = refl; timeless = refl; counted = refl; whole = refl };
   untimed = λ schema. refl;
   unshown = λ schema base. refl;
   drops = λ schema at named base. simp (named) refl;

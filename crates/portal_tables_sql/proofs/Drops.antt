@@ -36,7 +36,7 @@ module _ (schema : Schema) (sql : List ℕ) (statement : Statement) (count : ℕ
     (untimed : timed schema [] statement ≡ [])
     (unshown : (base : ℕ) → returning schema base statement ≡ Ok None) where
   means : (b : Bool) (at : ℕ) → command schema [] (small t.parsed.names + 0) statement ≡ dropped_at b at
-      → (x : Compiled) → understood schema sql ≡ Ok x → Means schema sql (DropTable at)
+      → (x : Compiled) → understood schema sql ≡ Ok x → Means schema sql count (DropTable at)
   means true at is x ok = absurd (refused schema sql statement count t untimed unshown Misuse refl is x ok)
   means false at is x ok = (known_as schema sql statement count t untimed unshown (DropTable at) is).0
 

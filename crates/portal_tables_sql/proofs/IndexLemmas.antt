@@ -27,7 +27,7 @@ module _ (schema : Schema) (sql : List ℕ) (statement : Statement) (count : ℕ
     (unshown : (base : ℕ) → returning schema base statement ≡ Ok None) where
   means : (a b : Bool) (at : ℕ) → command schema [] (small t.parsed.names + 0) statement ≡ made_index a b at
       → (x : Compiled) → understood schema sql ≡ Ok x
-      → Means schema sql (CreateIndex at)
+      → Means schema sql count (CreateIndex at)
       × (statement_of sql (understood schema sql) ≡ slice_range sql t.parsed.start t.parsed.end)
   means true b at is x ok = absurd (refused schema sql statement count t untimed unshown Exists refl is x ok)
   means false true at is x ok =

@@ -17,7 +17,7 @@ pub makes_index : (x : OurIndex) → IsIndex (described_index x).create (indexed
 unfolding everything
 makes_index by.PlansById = record {
   statement = _;
-  text = record { parsed = _; read = refl; is = refl; timeless = refl; counted = refl };
+  text = record { parsed = _; read = refl; is = refl; timeless = refl; counted = refl; whole = refl };
   name = (described_index by.PlansById).name;
   untimed = λ schema. refl;
   unshown = λ schema base. refl;
@@ -26,7 +26,7 @@ makes_index by.PlansById = record {
 }
 makes_index by.BatchesById = record {
   statement = _;
-  text = record { parsed = _; read = refl; is = refl; timeless = refl; counted = refl };
+  text = record { parsed = _; read = refl; is = refl; timeless = refl; counted = refl; whole = refl };
   name = (described_index by.BatchesById).name;
   untimed = λ schema. refl;
   unshown = λ schema base. refl;
@@ -35,7 +35,7 @@ makes_index by.BatchesById = record {
 }
 makes_index by.BatchesByIssue = record {
   statement = _;
-  text = record { parsed = _; read = refl; is = refl; timeless = refl; counted = refl };
+  text = record { parsed = _; read = refl; is = refl; timeless = refl; counted = refl; whole = refl };
   name = (described_index by.BatchesByIssue).name;
   untimed = λ schema. refl;
   unshown = λ schema base. refl;
@@ -44,7 +44,7 @@ makes_index by.BatchesByIssue = record {
 }
 makes_index by.VouchersByCode = record {
   statement = _;
-  text = record { parsed = _; read = refl; is = refl; timeless = refl; counted = refl };
+  text = record { parsed = _; read = refl; is = refl; timeless = refl; counted = refl; whole = refl };
   name = (described_index by.VouchersByCode).name;
   untimed = λ schema. refl;
   unshown = λ schema base. refl;
@@ -53,7 +53,7 @@ makes_index by.VouchersByCode = record {
 }
 makes_index by.VouchersByBatch = record {
   statement = _;
-  text = record { parsed = _; read = refl; is = refl; timeless = refl; counted = refl };
+  text = record { parsed = _; read = refl; is = refl; timeless = refl; counted = refl; whole = refl };
   name = (described_index by.VouchersByBatch).name;
   untimed = λ schema. refl;
   unshown = λ schema base. refl;
@@ -62,7 +62,7 @@ makes_index by.VouchersByBatch = record {
 }
 makes_index by.SessionsByDevice = record {
   statement = _;
-  text = record { parsed = _; read = refl; is = refl; timeless = refl; counted = refl };
+  text = record { parsed = _; read = refl; is = refl; timeless = refl; counted = refl; whole = refl };
   name = (described_index by.SessionsByDevice).name;
   untimed = λ schema. refl;
   unshown = λ schema base. refl;
@@ -71,7 +71,7 @@ makes_index by.SessionsByDevice = record {
 }
 makes_index by.GrantsByCode = record {
   statement = _;
-  text = record { parsed = _; read = refl; is = refl; timeless = refl; counted = refl };
+  text = record { parsed = _; read = refl; is = refl; timeless = refl; counted = refl; whole = refl };
   name = (described_index by.GrantsByCode).name;
   untimed = λ schema. refl;
   unshown = λ schema base. refl;
@@ -80,7 +80,7 @@ makes_index by.GrantsByCode = record {
 }
 makes_index by.RequestsByKey = record {
   statement = _;
-  text = record { parsed = _; read = refl; is = refl; timeless = refl; counted = refl };
+  text = record { parsed = _; read = refl; is = refl; timeless = refl; counted = refl; whole = refl };
   name = (described_index by.RequestsByKey).name;
   untimed = λ schema. refl;
   unshown = λ schema base. refl;

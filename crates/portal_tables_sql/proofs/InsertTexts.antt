@@ -19,13 +19,13 @@ abbrev pub add_plan_terms : List Term
 add_plan_terms = lit Null ∷ col 0 0 ∷ col 0 1 ∷ col 0 2 ∷ col 0 3 ∷ col 0 4 ∷ col 0 5 ∷ col 0 6 ∷ []
 
 pub add_plan_means : (schema : Schema) (at tree : ℕ) → TableExists schema at (plans tree)
-    → Means schema add_plan_text (Insert at (Values add_plan_terms 8))
+    → Means schema add_plan_text 7 (Insert at (Values add_plan_terms 8))
 unfolding everything
 add_plan_means schema at tree exists =
     means_is schema add_plan_text (insert_into plans_name (codes "id" ∷ codes "price" ∷ codes "uses" ∷ codes
     "seconds" ∷ codes "bytes" ∷ codes "shelf_days" ∷ codes "extend" ∷ []) (expr.Parameter 1 ∷ expr.Parameter 2
     ∷ expr.Parameter 3 ∷ expr.Parameter 4 ∷ expr.Parameter 5 ∷ expr.Parameter 6 ∷ expr.Parameter 7 ∷ []))
-    7 _ (record { parsed = _; read = refl; is = refl; timeless = refl; counted = refl })
+    7 _ (record { parsed = _; read = refl; is = refl; timeless = refl; counted = refl; whole = refl })
     (simp (exists.named, exists.there) refl) (λ base. refl) (λ base. simp (exists.named, exists.there) refl)
 
 abbrev pub add_batch_text : List ℕ
@@ -36,13 +36,13 @@ abbrev pub add_batch_terms : List Term
 add_batch_terms = lit Null ∷ col 0 0 ∷ col 0 1 ∷ col 0 2 ∷ col 0 3 ∷ col 0 4 ∷ []
 
 pub add_batch_means : (schema : Schema) (at tree : ℕ) → TableExists schema at (batches tree)
-    → Means schema add_batch_text (Insert at (Values add_batch_terms 6))
+    → Means schema add_batch_text 5 (Insert at (Values add_batch_terms 6))
 unfolding everything
 add_batch_means schema at tree exists =
     means_is schema add_batch_text (insert_into batches_name
     (codes "id" ∷ codes "plan_id" ∷ codes "issued" ∷ codes "expires" ∷ codes "size" ∷ [])
     (expr.Parameter 1 ∷ expr.Parameter 2 ∷ expr.Parameter 3 ∷ expr.Parameter 4 ∷ expr.Parameter 5 ∷ []))
-    5 _ (record { parsed = _; read = refl; is = refl; timeless = refl; counted = refl })
+    5 _ (record { parsed = _; read = refl; is = refl; timeless = refl; counted = refl; whole = refl })
     (simp (exists.named, exists.there) refl) (λ base. refl) (λ base. simp (exists.named, exists.there) refl)
 
 abbrev pub add_voucher_text : List ℕ
@@ -54,13 +54,13 @@ add_voucher_terms = lit Null ∷ col 0 0 ∷ col 0 1 ∷ col 0 2 ∷ lit Null �
     ∷ lit (Int (pos 0)) ∷ []
 
 pub add_voucher_means : (schema : Schema) (at tree : ℕ) → TableExists schema at (vouchers tree)
-    → Means schema add_voucher_text (Insert at (Values add_voucher_terms 8))
+    → Means schema add_voucher_text 3 (Insert at (Values add_voucher_terms 8))
 unfolding everything
 add_voucher_means schema at tree exists =
     means_is schema add_voucher_text
     (insert_into vouchers_name (codes "code" ∷ codes "batch_id" ∷ codes "place" ∷ codes "redeemed" ∷ [])
     (expr.Parameter 1 ∷ expr.Parameter 2 ∷ expr.Parameter 3 ∷ expr.Integer (codes "0") ∷ []))
-    3 _ (record { parsed = _; read = refl; is = refl; timeless = refl; counted = refl })
+    3 _ (record { parsed = _; read = refl; is = refl; timeless = refl; counted = refl; whole = refl })
     (simp (exists.named, exists.there) refl) (λ base. refl) (λ base. simp (exists.named, exists.there) refl)
 
 abbrev pub add_session_text : List ℕ
@@ -73,14 +73,14 @@ add_session_terms = col 0 0 ∷ lit Null ∷ col 0 1 ∷ col 0 2 ∷ col 0 3 ∷
     ∷ col 0 4 ∷ col 0 5 ∷ []
 
 pub add_session_means : (schema : Schema) (at tree : ℕ) → TableExists schema at (sessions tree)
-    → Means schema add_session_text (Insert at (Values add_session_terms 9))
+    → Means schema add_session_text 6 (Insert at (Values add_session_terms 9))
 unfolding everything
 add_session_means schema at tree exists =
     means_is schema add_session_text (insert_into sessions_name
     (codes "number" ∷ codes "device" ∷ codes "plan_id" ∷ codes "opened" ∷ codes "used" ∷ codes "ends"
     ∷ codes "remaining" ∷ []) (expr.Parameter 1 ∷ expr.Parameter 2 ∷ expr.Parameter 3 ∷ expr.Parameter 4
     ∷ expr.Integer (codes "0") ∷ expr.Parameter 5 ∷ expr.Parameter 6 ∷ []))
-    6 _ (record { parsed = _; read = refl; is = refl; timeless = refl; counted = refl })
+    6 _ (record { parsed = _; read = refl; is = refl; timeless = refl; counted = refl; whole = refl })
     (simp (exists.named, exists.there) refl) (λ base. refl) (λ base. simp (exists.named, exists.there) refl)
 
 abbrev pub add_grant_text : List ℕ
@@ -92,13 +92,13 @@ abbrev pub add_grant_terms : List Term
 add_grant_terms = col 0 0 ∷ lit Null ∷ col 0 1 ∷ col 0 2 ∷ col 0 3 ∷ col 0 4 ∷ col 0 5 ∷ []
 
 pub add_grant_means : (schema : Schema) (at tree : ℕ) → TableExists schema at (grants tree)
-    → Means schema add_grant_text (Insert at (Values add_grant_terms 7))
+    → Means schema add_grant_text 6 (Insert at (Values add_grant_terms 7))
 unfolding everything
 add_grant_means schema at tree exists =
     means_is schema add_grant_text (insert_into grants_name (codes "number" ∷ codes "code"
     ∷ codes "session" ∷ codes "moment" ∷ codes "seconds" ∷ codes "bytes" ∷ []) (expr.Parameter 1
     ∷ expr.Parameter 2 ∷ expr.Parameter 3 ∷ expr.Parameter 4 ∷ expr.Parameter 5 ∷ expr.Parameter 6 ∷ []))
-    6 _ (record { parsed = _; read = refl; is = refl; timeless = refl; counted = refl })
+    6 _ (record { parsed = _; read = refl; is = refl; timeless = refl; counted = refl; whole = refl })
     (simp (exists.named, exists.there) refl) (λ base. refl) (λ base. simp (exists.named, exists.there) refl)
 
 abbrev pub add_head_text : List ℕ
@@ -110,13 +110,13 @@ add_head_terms =
     lit (Int (pos 1)) ∷ lit Null ∷ col 0 0 ∷ lit (Int (pos 0)) ∷ lit (Int (pos 0)) ∷ lit (Int (pos 0)) ∷ []
 
 pub add_head_means : (schema : Schema) (at tree : ℕ) → TableExists schema at (head tree)
-    → Means schema add_head_text (Insert at (Values add_head_terms 6))
+    → Means schema add_head_text 1 (Insert at (Values add_head_terms 6))
 unfolding everything
 add_head_means schema at tree exists =
     means_is schema add_head_text (insert_into head_name (codes "id" ∷ codes "layout" ∷ codes "last_moment"
     ∷ codes "grants" ∷ codes "sessions" ∷ []) (expr.Integer (codes "1") ∷ expr.Parameter 1
     ∷ expr.Integer (codes "0") ∷ expr.Integer (codes "0") ∷ expr.Integer (codes "0") ∷ []))
-    1 _ (record { parsed = _; read = refl; is = refl; timeless = refl; counted = refl })
+    1 _ (record { parsed = _; read = refl; is = refl; timeless = refl; counted = refl; whole = refl })
     (simp (exists.named, exists.there) refl) (λ base. refl) (λ base. simp (exists.named, exists.there) refl)
 
 -- ---- with all columns
@@ -131,7 +131,7 @@ add_whole_voucher_terms = lit Null ∷ col 0 0 ∷ col 0 1 ∷ col 0 2 ∷ col 0
     ∷ col 0 6 ∷ []
 
 pub add_whole_voucher_means : (schema : Schema) (at tree : ℕ) → TableExists schema at (vouchers tree)
-    → Means schema add_whole_voucher_text (Insert at (Values add_whole_voucher_terms 8))
+    → Means schema add_whole_voucher_text 7 (Insert at (Values add_whole_voucher_terms 8))
 unfolding everything
 add_whole_voucher_means schema at tree exists =
     means_is schema add_whole_voucher_text (insert_into vouchers_name
@@ -139,7 +139,7 @@ add_whole_voucher_means schema at tree exists =
     ∷ codes "redeemed" ∷ [])
     (expr.Parameter 1 ∷ expr.Parameter 2 ∷ expr.Parameter 3 ∷ expr.Parameter 4 ∷ expr.Parameter 5
     ∷ expr.Parameter 6 ∷ expr.Parameter 7 ∷ []))
-    7 _ (record { parsed = _; read = refl; is = refl; timeless = refl; counted = refl })
+    7 _ (record { parsed = _; read = refl; is = refl; timeless = refl; counted = refl; whole = refl })
     (simp (exists.named, exists.there) refl) (λ base. refl) (λ base. simp (exists.named, exists.there) refl)
 
 abbrev pub add_whole_session_text : List ℕ
@@ -152,14 +152,14 @@ add_whole_session_terms = col 0 0 ∷ lit Null ∷ col 0 1 ∷ col 0 2 ∷ col 0
     ∷ col 0 6 ∷ col 0 7 ∷ []
 
 pub add_whole_session_means : (schema : Schema) (at tree : ℕ) → TableExists schema at (sessions tree)
-    → Means schema add_whole_session_text (Insert at (Values add_whole_session_terms 9))
+    → Means schema add_whole_session_text 8 (Insert at (Values add_whole_session_terms 9))
 unfolding everything
 add_whole_session_means schema at tree exists =
     means_is schema add_whole_session_text (insert_into sessions_name (codes "number" ∷ codes "device"
     ∷ codes "plan_id" ∷ codes "opened" ∷ codes "used" ∷ codes "closed" ∷ codes "ends" ∷ codes "remaining"
     ∷ []) (expr.Parameter 1 ∷ expr.Parameter 2 ∷ expr.Parameter 3 ∷ expr.Parameter 4 ∷ expr.Parameter 5
     ∷ expr.Parameter 6 ∷ expr.Parameter 7 ∷ expr.Parameter 8 ∷ []))
-    8 _ (record { parsed = _; read = refl; is = refl; timeless = refl; counted = refl })
+    8 _ (record { parsed = _; read = refl; is = refl; timeless = refl; counted = refl; whole = refl })
     (simp (exists.named, exists.there) refl) (λ base. refl) (λ base. simp (exists.named, exists.there) refl)
 
 abbrev pub add_whole_head_text : List ℕ
@@ -170,11 +170,11 @@ abbrev pub add_whole_head_terms : List Term
 add_whole_head_terms = col 0 0 ∷ lit Null ∷ col 0 1 ∷ col 0 2 ∷ col 0 3 ∷ col 0 4 ∷ []
 
 pub add_whole_head_means : (schema : Schema) (at tree : ℕ) → TableExists schema at (head tree)
-    → Means schema add_whole_head_text (Insert at (Values add_whole_head_terms 6))
+    → Means schema add_whole_head_text 5 (Insert at (Values add_whole_head_terms 6))
 unfolding everything
 add_whole_head_means schema at tree exists =
     means_is schema add_whole_head_text (insert_into head_name (codes "id" ∷ codes "layout"
     ∷ codes "last_moment" ∷ codes "grants" ∷ codes "sessions" ∷ []) (expr.Parameter 1
     ∷ expr.Parameter 2 ∷ expr.Parameter 3 ∷ expr.Parameter 4 ∷ expr.Parameter 5 ∷ []))
-    5 _ (record { parsed = _; read = refl; is = refl; timeless = refl; counted = refl })
+    5 _ (record { parsed = _; read = refl; is = refl; timeless = refl; counted = refl; whole = refl })
     (simp (exists.named, exists.there) refl) (λ base. refl) (λ base. simp (exists.named, exists.there) refl)

@@ -1,5 +1,6 @@
 pub mod Acts
 pub mod AskLemmas
+pub mod Causes
 pub mod Common
 pub mod CreateTexts
 pub mod DropTexts

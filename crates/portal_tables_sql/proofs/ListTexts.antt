@@ -7,6 +7,10 @@ use Rattle.portal_tables_sql.proofs.Lookup.{IsSelect, all_columns, by, column_is
 use Rattle.portal_tables_sql.proofs.Selects.{select_means, up, where_is}
 use Rattle.portal_tables_sql.specs.Tables.{vouchers, vouchers_name, sessions, sessions_name}
 use Rattle.portal_tables_sql.proofs.SelectTexts.{voucher_columns, session_columns}
+use Rattle.portal_tables_sql.specs.Causes.{IsTaken}
+use Rattle.portal_tables_sql.specs.Stored.{number}
+use Rattle.portal_tables_sql.proofs.Common.{Text}
+use Rattle.portal_tables_sql.proofs.Causes.{text_taken}
 use Rattle.sqlite_tied.specs.Compute.{everything}
 use Rattle.sqlite_ast.specs.declared.Expr.{Expr}
 use Rattle.sqlite_ast.specs.declared.Expr.TheVariants as expr
@@ -23,7 +27,7 @@ batch_vouchers_text =
     ++ codes " WHERE batch_id = ?1 ORDER BY place"
 
 pub batch_vouchers_means : (schema : Schema) (at tree : ℕ) → TableExists schema at (vouchers tree)
-    → IsSelect schema batch_vouchers_text (vouchers tree) (column_is (vouchers tree) 1 (col 0 0) ∷ [])
+    → IsSelect schema batch_vouchers_text 1 (vouchers tree) (column_is (vouchers tree) 1 (col 0 0) ∷ [])
     (by (vouchers tree) 2 false) unlimited voucher_columns
 unfolding everything
 batch_vouchers_means schema at tree exists =
@@ -33,8 +37,16 @@ batch_vouchers_means schema at tree exists =
     (drafted tree (column_is (vouchers tree) 1 (col 0 0) ∷ [])
     (all_columns (vouchers tree)) (by (vouchers tree) 2 false) unlimited)
     (Some Binary ∷ Some Binary ∷ Some Binary ∷ Some Binary ∷ Some Binary ∷ Some Binary ∷ Some Binary ∷ [])
-    (record { parsed = _; read = refl; is = refl; timeless = refl; counted = refl }) refl refl
+    (record { parsed = _; read = refl; is = refl; timeless = refl; counted = refl; whole = refl }) refl refl
     (simp (exists.named, exists.there) refl) (simp (exists.low, exists.typed) refl) refl (λ base. refl)
+
+pub batch_vouchers_taken : (schema : Schema) (at tree : ℕ) → TableExists schema at (vouchers tree)
+    → (batch : List ℕ)
+    → IsTaken batch_vouchers_text (Text batch ∷ []) schema
+unfolding everything
+batch_vouchers_taken schema at tree exists batch =
+    text_taken (batch_vouchers_means schema at tree exists) (Text batch ∷ [])
+    refl (simp (exists.low, exists.typed) refl)
 
 -- ---- vouchers with a time between two
 
@@ -60,7 +72,7 @@ abbrev pub sold_terms : Table → List Term
 sold_terms table = col 1 (place_of table 1) ∷ col 1 (place_of table 3) ∷ []
 
 pub sold_means : (schema : Schema) (at tree : ℕ) → TableExists schema at (vouchers tree)
-    → IsSelectOf schema sold_text (vouchers tree) (within_terms (vouchers tree) 3)
+    → IsSelectOf schema sold_text 2 (vouchers tree) (within_terms (vouchers tree) 3)
     (sold_terms (vouchers tree)) sold_columns
 unfolding everything
 sold_means schema at tree exists =
@@ -68,9 +80,16 @@ sold_means schema at tree exists =
     (up (codes "rowid")) None 2 (lit (Int (negsuc 0)), lit (Int (pos 0)))
     (drafted tree (within_terms (vouchers tree) 3) (sold_terms (vouchers tree)) by_rowid unlimited)
     (Some Binary ∷ Some Binary ∷ [])
-    (record { parsed = _; read = refl; is = refl; timeless = refl; counted = refl }) refl refl
+    (record { parsed = _; read = refl; is = refl; timeless = refl; counted = refl; whole = refl }) refl refl
     (simp (exists.named, exists.there, has_rowids tree exists.low) refl)
     (simp (exists.low, exists.typed) refl) refl (λ base. refl)
+
+pub sold_taken : (schema : Schema) (at tree : ℕ) → TableExists schema at (vouchers tree) → (start last : ℕ)
+    → IsTaken sold_text (number start ∷ number last ∷ []) schema
+unfolding everything
+sold_taken schema at tree exists start last =
+    text_taken (sold_means schema at tree exists) (number start ∷ number last ∷ [])
+    refl (simp (exists.low, exists.typed) refl)
 
 abbrev pub ordered_text : List ℕ
 ordered_text =
@@ -78,7 +97,7 @@ ordered_text =
     ++ codes " WHERE sold >= ?1 AND sold <= ?2 ORDER BY sold, code"
 
 pub ordered_means : (schema : Schema) (at tree : ℕ) → TableExists schema at (vouchers tree)
-    → IsSelect schema ordered_text (vouchers tree) (within_terms (vouchers tree) 3)
+    → IsSelect schema ordered_text 2 (vouchers tree) (within_terms (vouchers tree) 3)
     (by (vouchers tree) 3 false ++ by (vouchers tree) 0 false) unlimited voucher_columns
 unfolding everything
 ordered_means schema at tree exists =
@@ -87,8 +106,15 @@ ordered_means schema at tree exists =
     (drafted tree (within_terms (vouchers tree) 3) (all_columns (vouchers tree))
     (by (vouchers tree) 3 false ++ by (vouchers tree) 0 false) unlimited)
     (Some Binary ∷ Some Binary ∷ Some Binary ∷ Some Binary ∷ Some Binary ∷ Some Binary ∷ Some Binary ∷ [])
-    (record { parsed = _; read = refl; is = refl; timeless = refl; counted = refl }) refl refl
+    (record { parsed = _; read = refl; is = refl; timeless = refl; counted = refl; whole = refl }) refl refl
     (simp (exists.named, exists.there) refl) (simp (exists.low, exists.typed) refl) refl (λ base. refl)
+
+pub ordered_taken : (schema : Schema) (at tree : ℕ) → TableExists schema at (vouchers tree) → (start last : ℕ)
+    → IsTaken ordered_text (number start ∷ number last ∷ []) schema
+unfolding everything
+ordered_taken schema at tree exists start last =
+    text_taken (ordered_means schema at tree exists) (number start ∷ number last ∷ [])
+    refl (simp (exists.low, exists.typed) refl)
 
 abbrev pub refunded_text : List ℕ
 refunded_text =
@@ -96,7 +122,7 @@ refunded_text =
     ++ codes " WHERE refunded >= ?1 AND refunded <= ?2 ORDER BY refunded, code"
 
 pub refunded_means : (schema : Schema) (at tree : ℕ) → TableExists schema at (vouchers tree)
-    → IsSelect schema refunded_text (vouchers tree) (within_terms (vouchers tree) 4)
+    → IsSelect schema refunded_text 2 (vouchers tree) (within_terms (vouchers tree) 4)
     (by (vouchers tree) 4 false ++ by (vouchers tree) 0 false) unlimited voucher_columns
 unfolding everything
 refunded_means schema at tree exists =
@@ -105,8 +131,16 @@ refunded_means schema at tree exists =
     (drafted tree (within_terms (vouchers tree) 4) (all_columns (vouchers tree))
     (by (vouchers tree) 4 false ++ by (vouchers tree) 0 false) unlimited)
     (Some Binary ∷ Some Binary ∷ Some Binary ∷ Some Binary ∷ Some Binary ∷ Some Binary ∷ Some Binary ∷ [])
-    (record { parsed = _; read = refl; is = refl; timeless = refl; counted = refl }) refl refl
+    (record { parsed = _; read = refl; is = refl; timeless = refl; counted = refl; whole = refl }) refl refl
     (simp (exists.named, exists.there) refl) (simp (exists.low, exists.typed) refl) refl (λ base. refl)
+
+pub refunded_taken : (schema : Schema) (at tree : ℕ) → TableExists schema at (vouchers tree)
+    → (start last : ℕ)
+    → IsTaken refunded_text (number start ∷ number last ∷ []) schema
+unfolding everything
+refunded_taken schema at tree exists start last =
+    text_taken (refunded_means schema at tree exists) (number start ∷ number last ∷ [])
+    refl (simp (exists.low, exists.typed) refl)
 
 -- ---- the sessions that are open at a time
 
@@ -147,7 +181,7 @@ open_terms table = null_term (col 1 (place_of table 5))
     ∷ null_or_above_term (col 1 (place_of table 7)) (lit (Int (pos 0))) ∷ []
 
 pub open_sessions_means : (schema : Schema) (at tree : ℕ) → TableExists schema at (sessions tree)
-    → IsSelect schema open_sessions_text (sessions tree) (open_terms (sessions tree)) by_rowid unlimited
+    → IsSelect schema open_sessions_text 1 (sessions tree) (open_terms (sessions tree)) by_rowid unlimited
     session_columns
 unfolding everything
 open_sessions_means schema at tree exists =
@@ -156,5 +190,13 @@ open_sessions_means schema at tree exists =
     (drafted tree (open_terms (sessions tree)) (all_columns (sessions tree)) by_rowid unlimited)
     (None ∷ Some Binary ∷ Some Binary ∷ Some Binary ∷ Some Binary ∷ Some Binary ∷ Some Binary ∷ Some Binary
     ∷ [])
-    (record { parsed = _; read = refl; is = refl; timeless = refl; counted = refl }) refl refl
+    (record { parsed = _; read = refl; is = refl; timeless = refl; counted = refl; whole = refl }) refl refl
     (simp (exists.named, exists.there) refl) (simp (exists.low, exists.typed) refl) refl (λ base. refl)
+
+pub open_sessions_taken : (schema : Schema) (at tree : ℕ) → TableExists schema at (sessions tree)
+    → (moment : ℕ)
+    → IsTaken open_sessions_text (number moment ∷ []) schema
+unfolding everything
+open_sessions_taken schema at tree exists moment =
+    text_taken (open_sessions_means schema at tree exists) (number moment ∷ [])
+    refl (simp (exists.low, exists.typed) refl)

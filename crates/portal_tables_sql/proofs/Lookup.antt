@@ -50,9 +50,9 @@ sorted_to_map f cmp (x ∷ xs) h k d low within =
     (h k x low inside)
 
 -- what the text means: all columns of the table, of the rows that pass
-abbrev pub IsSelect : Schema → List ℕ → Table → List Term → List (Term × Key) → ℤ → List (List ℕ) → Type 0
-IsSelect schema sql table terms order limit names =
-    Means schema sql (Select (record { lets = []; body = select_from table terms order limit }) names)
+abbrev pub IsSelect : Schema → List ℕ → ℕ → Table → List Term → List (Term × Key) → ℤ → List (List ℕ) → Type 0
+IsSelect schema sql count table terms order limit names =
+    Means schema sql count (Select (record { lets = []; body = select_from table terms order limit }) names)
 
 module _ (sql : List ℕ) (table : Table) (terms : List Term) (order : List (Term × Key)) (params : Row)
     (old new : State) (names : List (List ℕ))
@@ -79,7 +79,7 @@ module _ (sql : List ℕ) (table : Table) (terms : List Term) (order : List (Ter
         sorted = subst (IsSorted cmp) (sym s'.shown) (sorted_to_map (fields table) cmp s'.ordered sorted);
       }
 
-  pub selected : IsSelect old.now.schema sql table terms order unlimited names → (rows : List Row)
+  pub selected : {n : ℕ} → IsSelect old.now.schema sql n table terms order unlimited names → (rows : List Row)
       → Shown sql params old new rows → IsSelection p cmp (rows_in table old.now.trees) rows
   selected s rows h =
       let read = reads_as sql params old new old.now.schema refl _ s.is s.plain s.unlisted rows h in
@@ -89,7 +89,8 @@ module _ (sql : List ℕ) (table : Table) (terms : List Term) (order : List (Ter
       (scan_all table.tree terms (all_columns table) order (overlay old.now.trees []) params rows a)
 
   -- with LIMIT
-  pub first_selected : (count : ℕ) → IsSelect old.now.schema sql table terms order (pos count) names
+  pub first_selected : (count : ℕ) → {n : ℕ}
+      → IsSelect old.now.schema sql n table terms order (pos count) names
       → (rows : List Row) → Shown sql params old new rows
       → (all : List Row) × IsSelection p cmp (rows_in table old.now.trees) all × (rows ≡ take count all)
   first_selected count s rows h =

@@ -34,7 +34,7 @@ module _ (schema : Schema) (sql : List ℕ) (statement : Statement) (count : ℕ
     (unshown : (base : ℕ) → returning schema base statement ≡ Ok None) where
   means : (a b c : Bool) → command schema [] (small t.parsed.names + 0) statement ≡ made a b c
       → (x : Compiled) → understood schema sql ≡ Ok x
-      → Means schema sql CreateTable
+      → Means schema sql count CreateTable
       × (statement_of sql (understood schema sql) ≡ slice_range sql t.parsed.start t.parsed.end)
   means true b c is x ok =
       absurd (refused schema sql statement count t untimed unshown Unsupported refl is x ok)

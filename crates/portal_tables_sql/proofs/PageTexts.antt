@@ -9,6 +9,10 @@ use Rattle.portal_tables_sql.proofs.Selects.{select_means, up, down, where_is}
 use Rattle.portal_tables_sql.specs.Tables.{vouchers, vouchers_name, batches, batches_name, grants}
 use Rattle.portal_tables_sql.specs.Tables.{grants_name}
 use Rattle.portal_tables_sql.proofs.SelectTexts.{voucher_columns, batch_columns}
+use Rattle.portal_tables_sql.specs.Causes.{IsTaken}
+use Rattle.portal_tables_sql.specs.Stored.{number}
+use Rattle.portal_tables_sql.proofs.Common.{Text}
+use Rattle.portal_tables_sql.proofs.Causes.{text_taken}
 use Rattle.sqlite_tied.specs.Compute.{everything}
 use Rattle.sqlite_ast.specs.declared.Expr.{Expr}
 use Rattle.sqlite_ast.specs.declared.Expr.TheVariants as expr
@@ -35,7 +39,7 @@ between_terms table = op2 (by_op.Compare Ge Binary) (col 1 (place_of table 0)) (
     ∷ op2 (by_op.Compare Lt Binary) (col 1 (place_of table 0)) (col 0 1) ∷ []
 
 pub between_means : (schema : Schema) (at tree : ℕ) → TableExists schema at (vouchers tree)
-    → IsSelect schema between_text (vouchers tree) (between_terms (vouchers tree))
+    → IsSelect schema between_text 2 (vouchers tree) (between_terms (vouchers tree))
     (by (vouchers tree) 0 false) (pos 51) voucher_columns
 unfolding everything
 between_means schema at tree exists =
@@ -44,8 +48,16 @@ between_means schema at tree exists =
     (drafted tree (between_terms (vouchers tree)) (all_columns (vouchers tree)) (by (vouchers tree) 0 false)
     (pos 51))
     (Some Binary ∷ Some Binary ∷ Some Binary ∷ Some Binary ∷ Some Binary ∷ Some Binary ∷ Some Binary ∷ [])
-    (record { parsed = _; read = refl; is = refl; timeless = refl; counted = refl }) refl refl
+    (record { parsed = _; read = refl; is = refl; timeless = refl; counted = refl; whole = refl }) refl refl
     (simp (exists.named, exists.there) refl) (simp (exists.low, exists.typed) refl) refl (λ base. refl)
+
+pub between_taken : (schema : Schema) (at tree : ℕ) → TableExists schema at (vouchers tree)
+    → (low high : List ℕ)
+    → IsTaken between_text (Text low ∷ Text high ∷ []) schema
+unfolding everything
+between_taken schema at tree exists low high =
+    text_taken (between_means schema at tree exists) (Text low ∷ Text high ∷ [])
+    refl (simp (exists.low, exists.typed) refl)
 
 -- ---- batches behind a place in their list
 
@@ -70,7 +82,7 @@ behind_terms table = op2 (by_op.Compare Le Binary) (col 1 (place_of table 2)) (c
     (op2 (by_op.Compare Lt Binary) (col 1 (place_of table 0)) (col 0 1)) ∷ []
 
 pub behind_means : (schema : Schema) (at tree : ℕ) → TableExists schema at (batches tree)
-    → IsSelect schema behind_text (batches tree) (behind_terms (batches tree))
+    → IsSelect schema behind_text 2 (batches tree) (behind_terms (batches tree))
     (by (batches tree) 2 true ++ by (batches tree) 0 true) (pos 21) batch_columns
 unfolding everything
 behind_means schema at tree exists =
@@ -80,8 +92,16 @@ behind_means schema at tree exists =
     (drafted tree (behind_terms (batches tree)) (all_columns (batches tree))
     (by (batches tree) 2 true ++ by (batches tree) 0 true) (pos 21))
     (Some Binary ∷ Some Binary ∷ Some Binary ∷ Some Binary ∷ Some Binary ∷ [])
-    (record { parsed = _; read = refl; is = refl; timeless = refl; counted = refl }) refl refl
+    (record { parsed = _; read = refl; is = refl; timeless = refl; counted = refl; whole = refl }) refl refl
     (simp (exists.named, exists.there) refl) (simp (exists.low, exists.typed) refl) refl (λ base. refl)
+
+pub behind_taken : (schema : Schema) (at tree : ℕ) → TableExists schema at (batches tree)
+    → (issued : ℕ) (id : List ℕ)
+    → IsTaken behind_text (number issued ∷ Text id ∷ []) schema
+unfolding everything
+behind_taken schema at tree exists issued id =
+    text_taken (behind_means schema at tree exists) (number issued ∷ Text id ∷ [])
+    refl (simp (exists.low, exists.typed) refl)
 
 -- ---- redemptions
 
@@ -94,15 +114,22 @@ grant_text =
     codes "SELECT number, code, session, moment, seconds, bytes FROM portal_grants WHERE number = ?1"
 
 pub grant_means : (schema : Schema) (at tree : ℕ) → TableExists schema at (grants tree) → IsSelect schema
-    grant_text (grants tree) (column_is (grants tree) 0 (col 0 0) ∷ []) [] unlimited grant_columns
+    grant_text 1 (grants tree) (column_is (grants tree) 0 (col 0 0) ∷ []) [] unlimited grant_columns
 unfolding everything
 grant_means schema at tree exists =
     select_means schema grant_text grants_name grant_columns (where_is (codes "number") (expr.Parameter 1)) []
     None 1 (lit (Int (negsuc 0)), lit (Int (pos 0)))
     (drafted tree (column_is (grants tree) 0 (col 0 0) ∷ []) (all_columns (grants tree)) [] unlimited)
     (None ∷ Some Binary ∷ Some Binary ∷ Some Binary ∷ Some Binary ∷ Some Binary ∷ [])
-    (record { parsed = _; read = refl; is = refl; timeless = refl; counted = refl }) refl refl
+    (record { parsed = _; read = refl; is = refl; timeless = refl; counted = refl; whole = refl }) refl refl
     (simp (exists.named, exists.there) refl) (simp (exists.low, exists.typed) refl) refl (λ base. refl)
+
+pub grant_taken : (schema : Schema) (at tree : ℕ) → TableExists schema at (grants tree) → (key : ℕ)
+    → IsTaken grant_text (number key ∷ []) schema
+unfolding everything
+grant_taken schema at tree exists key =
+    text_taken (grant_means schema at tree exists) (number key ∷ [])
+    refl (simp (exists.low, exists.typed) refl)
 
 abbrev pub last_grants_text : List ℕ
 last_grants_text =
@@ -110,7 +137,7 @@ last_grants_text =
     ++ codes " ORDER BY number DESC LIMIT 101"
 
 pub last_grants_means : (schema : Schema) (at tree : ℕ) → TableExists schema at (grants tree)
-    → IsSelect schema last_grants_text (grants tree) (column_is (grants tree) 1 (col 0 0) ∷ [])
+    → IsSelect schema last_grants_text 1 (grants tree) (column_is (grants tree) 1 (col 0 0) ∷ [])
     (by (grants tree) 0 true) (pos 101) grant_columns
 unfolding everything
 last_grants_means schema at tree exists =
@@ -120,5 +147,13 @@ last_grants_means schema at tree exists =
     (drafted tree (column_is (grants tree) 1 (col 0 0) ∷ []) (all_columns (grants tree))
     (by (grants tree) 0 true) (pos 101))
     (None ∷ Some Binary ∷ Some Binary ∷ Some Binary ∷ Some Binary ∷ Some Binary ∷ [])
-    (record { parsed = _; read = refl; is = refl; timeless = refl; counted = refl }) refl refl
+    (record { parsed = _; read = refl; is = refl; timeless = refl; counted = refl; whole = refl }) refl refl
     (simp (exists.named, exists.there) refl) (simp (exists.low, exists.typed) refl) refl (λ base. refl)
+
+pub last_grants_taken : (schema : Schema) (at tree : ℕ) → TableExists schema at (grants tree)
+    → (code : List ℕ)
+    → IsTaken last_grants_text (Text code ∷ []) schema
+unfolding everything
+last_grants_taken schema at tree exists code =
+    text_taken (last_grants_means schema at tree exists) (Text code ∷ [])
+    refl (simp (exists.low, exists.typed) refl)

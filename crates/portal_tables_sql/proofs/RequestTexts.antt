@@ -8,6 +8,9 @@ use Rattle.portal_tables_sql.proofs.Texts.{Means, means_is}
 use Rattle.portal_tables_sql.proofs.Lookup.{IsSelect, all_columns, column_is}
 use Rattle.portal_tables_sql.proofs.Selects.{select_means, insert_into, up}
 use Rattle.portal_tables_sql.specs.Tables.{requests, requests_name}
+use Rattle.portal_tables_sql.specs.Causes.{IsTaken}
+use Rattle.portal_tables_sql.proofs.Common.{Text}
+use Rattle.portal_tables_sql.proofs.Causes.{text_taken}
 use Rattle.sqlite_tied.specs.Compute.{everything}
 use Rattle.sqlite_ast.specs.declared.Expr.{Expr}
 use Rattle.sqlite_ast.specs.declared.Expr.TheVariants as expr
@@ -28,13 +31,13 @@ add_request_terms = lit Null ∷ col 0 0 ∷ col 0 1 ∷ col 0 2 ∷ col 0 3 ∷
     ∷ col 0 8 ∷ col 0 9 ∷ []
 
 pub add_request_means : (schema : Schema) (at tree : ℕ) → TableExists schema at (requests tree)
-    → Means schema add_request_text (Insert at (Values add_request_terms 11))
+    → Means schema add_request_text 10 (Insert at (Values add_request_terms 11))
 unfolding everything
 add_request_means schema at tree exists =
     means_is schema add_request_text (insert_into requests_name request_columns
     (expr.Parameter 1 ∷ expr.Parameter 2 ∷ expr.Parameter 3 ∷ expr.Parameter 4 ∷ expr.Parameter 5
     ∷ expr.Parameter 6 ∷ expr.Parameter 7 ∷ expr.Parameter 8 ∷ expr.Parameter 9 ∷ expr.Parameter 10 ∷ []))
-    10 _ (record { parsed = _; read = refl; is = refl; timeless = refl; counted = refl })
+    10 _ (record { parsed = _; read = refl; is = refl; timeless = refl; counted = refl; whole = refl })
     (simp (exists.named, exists.there) refl) (λ base. refl) (λ base. simp (exists.named, exists.there) refl)
 
 abbrev pub request_text : List ℕ
@@ -51,7 +54,7 @@ abbrev pub key_terms : Table → List Term
 key_terms table = column_is table 0 (col 0 0) ∷ column_is table 1 (col 0 1) ∷ []
 
 pub request_means : (schema : Schema) (at tree : ℕ) → TableExists schema at (requests tree)
-    → IsSelect schema request_text (requests tree) (key_terms (requests tree)) [] unlimited request_columns
+    → IsSelect schema request_text 2 (requests tree) (key_terms (requests tree)) [] unlimited request_columns
 unfolding everything
 request_means schema at tree exists =
     select_means schema request_text requests_name request_columns where_key [] None 2
@@ -59,8 +62,16 @@ request_means schema at tree exists =
     (drafted tree (key_terms (requests tree)) (all_columns (requests tree)) [] unlimited)
     (Some Binary ∷ Some Binary ∷ Some Binary ∷ Some Binary ∷ Some Binary
     ∷ Some Binary ∷ Some Binary ∷ Some Binary ∷ Some Binary ∷ Some Binary ∷ [])
-    (record { parsed = _; read = refl; is = refl; timeless = refl; counted = refl }) refl refl
+    (record { parsed = _; read = refl; is = refl; timeless = refl; counted = refl; whole = refl }) refl refl
     (simp (exists.named, exists.there) refl) (simp (exists.low, exists.typed) refl) refl (λ base. refl)
+
+pub request_taken : (schema : Schema) (at tree : ℕ) → TableExists schema at (requests tree)
+    → (caller id : List ℕ)
+    → IsTaken request_text (Text caller ∷ Text id ∷ []) schema
+unfolding everything
+request_taken schema at tree exists caller id =
+    text_taken (request_means schema at tree exists) (Text caller ∷ Text id ∷ [])
+    refl (simp (exists.low, exists.typed) refl)
 
 abbrev pub keys_text : List ℕ
 keys_text = codes "SELECT caller, number FROM portal_requests ORDER BY rowid"
@@ -73,12 +84,18 @@ abbrev pub keys_terms : Table → List Term
 keys_terms table = col 1 (place_of table 0) ∷ col 1 (place_of table 1) ∷ []
 
 pub keys_means : (schema : Schema) (at tree : ℕ) → TableExists schema at (requests tree)
-    → IsSelectOf schema keys_text (requests tree) [] (keys_terms (requests tree)) keys_columns
+    → IsSelectOf schema keys_text 0 (requests tree) [] (keys_terms (requests tree)) keys_columns
 unfolding everything
 keys_means schema at tree exists =
     select_means schema keys_text requests_name keys_columns None (up (codes "rowid")) None 0
     (lit (Int (negsuc 0)), lit (Int (pos 0)))
     (drafted tree [] (keys_terms (requests tree)) by_rowid unlimited) (Some Binary ∷ Some Binary ∷ [])
-    (record { parsed = _; read = refl; is = refl; timeless = refl; counted = refl }) refl refl
+    (record { parsed = _; read = refl; is = refl; timeless = refl; counted = refl; whole = refl }) refl refl
     (simp (exists.named, exists.there, has_rowids tree exists.low) refl)
     (simp (exists.low, exists.typed) refl) refl (λ base. refl)
+
+pub keys_taken : (schema : Schema) (at tree : ℕ) → TableExists schema at (requests tree)
+    → IsTaken keys_text [] schema
+unfolding everything
+keys_taken schema at tree exists =
+    text_taken (keys_means schema at tree exists) [] refl (simp (exists.low, exists.typed) refl)

@@ -78,7 +78,7 @@ module _ (schema : Schema) (sql : List ℕ) (name : Name) (columns : List Name) 
       → accepts_program schema [] (query_of d) [] ≡ true
       → timed schema [] (written.Select (select_of name columns filter order limit)) ≡ []
       → ((base : ℕ) → returning schema base (written.Select (select_of name columns filter order limit))
-      ≡ Ok None) → Means schema sql (Select (program_of d) columns)
+      ≡ Ok None) → Means schema sql count (Select (program_of d) columns)
   select_means ordered paged is typed untimed unshown =
       let select = select_of name columns filter order limit in
       let plain = is_plain schema name columns filter order limit page paged in

@@ -13,13 +13,15 @@ use Rattle.sqlite.specs.Order.{Row}
 use Rattle.sqlite.specs.Listing.{IsSourceOf, understood}
 use Rattle.sqlite_trees.specs.declared.store.Store.{Ghosts}
 use Rattle.sqlite.specs.declared.rows.stream.Rows.{Rows}
-use Rattle.sqlite.specs.State.{Begins, Shown, ShowsRows}
+use Rattle.sqlite.specs.State.{Begins, FailsToQuery, Shown, ShowsRows}
 use Rattle.sqlite.specs.Clock.{timed}
 use Rattle.sqlite.specs.Given.{HasGiven, HasBegun, Returns, IsRefused}
 use Rattle.sqlite.specs.Next.{HasMoved}
 use Rattle.sqlite_rules.proofs.ListLemmas.{has_left, has_right}
 use Rattle.portal_tables_sql.specs.Asks.{AnswersCells, Asks, IsDirect, IsSimple}
+use Rattle.portal_tables_sql.specs.Causes.{HasCause, IsTaken}
 use Rattle.portal_tables_sql.specs.Looks.{Fails, ReadsOnly}
+use Rattle.portal_tables_sql.proofs.Causes.{caused_after, taken_asks, taken_fails}
 use Rattle.portal_tables_sql.proofs.AskLemmas.{asks_looks, commits_nothing, simple_asks}
 use Rattle.portal_tables_sql.proofs.LooksLemmas.{fails_then}
 
@@ -186,6 +188,17 @@ module _ {S V : Type 0} (g : Ghosts S) (sql : List ℕ) (params : Row) (cells : 
     pub fails_on : (e : Error) → result ≡ Err e → Fails (Asks sql) old is
     fails_on e err = fails_then (Asks sql) old was is (reads_so_far mid.conn.now values h) (fails_here e err)
 
+    -- and it failed for a cause, if SQLite takes the text
+    pub caused_on : (e : Error) → result ≡ Err e → HasCleanDisk is
+        → IsTaken sql params old.now.schema → HasCause old is e
+    caused_on e err clean taken =
+        let it = at_mid clean (taken_asks sql params old.now.schema taken) in
+        let failed : FailsToQuery sql params was is e =
+        (rw err at (moved.err clean)) sql params it.rows it.given in
+        let here = subst (λ (d : Database). IsTaken sql params d.schema) (sym it.same.0.now_is) taken in
+        caused_after old was is e (omega (arith, moved.survives.clean)) h.crash moved.survives
+        (taken_fails sql params was is e here failed)
+
 -- ---- the start
 
 module _ {S V : Type 0} (g : Ghosts S) (sql : List ℕ) (params : Row) (cells : V → Row) (width : ℕ)
@@ -212,3 +225,14 @@ pub fails_refused : {S X : Type 0} (g : Ghosts S) (sql : List ℕ) (params : Row
 fails_refused g sql params old new (Ok x) e is h = absurd cc
 fails_refused g sql params old new (Err f) e is h = asks_looks sql params (state g old) (state g new)
     (λ (row : Row). row ∷ []) (Err f) (λ clean. tt) h.err h.mode h.survives
+
+-- for a cause, if SQLite takes the text
+pub caused_refused : {S X : Type 0} (g : Ghosts S) (sql : List ℕ) (params : Row)
+    (old new : Held S) (result : Result X Error) (e : Error) → result ≡ Err e
+    → OnErr result (IsRefused g sql params old result new) → HasCleanDisk (state g new)
+    → IsTaken sql params old.schema → HasCause (state g old) (state g new) e
+caused_refused g sql params old new (Ok x) e is h clean taken = absurd cc
+caused_refused g sql params old new (Err f) e is h clean taken =
+    let same : f ≡ e = cc in
+    subst (HasCause (state g old) (state g new)) same
+    (taken_fails sql params (state g old) (state g new) f taken (h.err clean))

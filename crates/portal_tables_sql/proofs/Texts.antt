@@ -6,7 +6,7 @@ use Rattle.portal_tables_sql.proofs.Common.{Draft, Collation, Statement, Core, o
 use Rattle.portal_tables_sql.proofs.Common.{out-Select, Name, named, paging, Compiled, first, returning}
 use Rattle.portal_tables_sql.proofs.Common.{timed, small, with_command, reads_listing, command_of, ◌⊎◌, inl}
 use Rattle.portal_tables_sql.proofs.Common.{inr, sym, ◌∙◌, Err, Result, CompileError, misses_table}
-use Rattle.portal_tables_sql.proofs.Common.{statement_of, slice_range}
+use Rattle.portal_tables_sql.proofs.Common.{statement_of, slice_range, nat_le}
 use Rattle.sqlite_schema.specs.declared.program.Program.{Program}
 use Rattle.sqlite_syntax.specs.declared.statement.Parsed.{Parsed}
 use Rattle.sqlite_ast.specs.declared.Statement.TheVariants as written
@@ -25,12 +25,19 @@ pub record IsText (sql : List ℕ) (statement : Statement) (count : ℕ) : Type 
   pub is : parsed.statement ≡ statement
   pub timeless : parsed.formats ≡ []
   pub counted : length parsed.names ≡ count
+  pub whole : nat_le (length sql) parsed.tail ≡ true
 
--- what `Callers` asks of a text
-pub record Means (schema : Schema) (sql : List ℕ) (c : Command) : Type 0 where
+-- it is one statement with so many parameters
+abbrev pub IsOne : List ℕ → ℕ → Result Compiled CompileError → Type 0
+IsOne sql count (Ok c) = (nat_le (length sql) c.tail ≡ true) × (length c.names ≡ count)
+IsOne sql count (Err e) = ⊥
+
+-- what `Callers` asks of a text, and that it is one statement with so many parameters
+pub record Means (schema : Schema) (sql : List ℕ) (count : ℕ) (c : Command) : Type 0 where
   pub is : command_of (understood schema sql) ≡ c
   pub plain : IsPlain (understood schema sql)
   pub unlisted : reads_listing schema sql ≡ false
+  pub one : IsOne sql count (understood schema sql)
 
 -- a part that gave a value did not end on the way
 pub went : {B E R : Type 0} {b : B} {Stops : E → Type 0}
@@ -73,15 +80,22 @@ module _ (schema : Schema) (sql : List ℕ) (statement : Statement) (count : ℕ
   refused e other is x ok = let none = sym (refused_as e other is) ∙ ok in cc
 
   pub known_as : (c : Command) → command schema [] (small t.parsed.names + 0) statement ≡ Ok c
-      → Means schema sql c
+      → Means schema sql count c
       × (statement_of sql (understood schema sql) ≡ slice_range sql t.parsed.start t.parsed.end)
-  known_as c is = let u = understood_as c is in
-      (record { is = rw u.0 refl; plain = rw u.0 (refl, refl); unlisted = u.1 }, rw u.0 refl)
+  known_as c is = let u = understood_as c is in (
+    record {
+      is = rw u.0 refl;
+      plain = rw u.0 (refl, refl);
+      unlisted = u.1;
+      one = rw u.0 (t.whole, t.counted);
+    },
+    rw u.0 refl,
+  )
 
 pub means_is : (schema : Schema) (sql : List ℕ) (statement : Statement) (count : ℕ) (c : Command)
     (t : IsText sql statement count)
     → timed schema [] statement ≡ [] → ((base : ℕ) → returning schema base statement ≡ Ok None)
-    → ((base : ℕ) → command schema [] base statement ≡ Ok c) → Means schema sql c
+    → ((base : ℕ) → command schema [] base statement ≡ Ok c) → Means schema sql count c
 means_is schema sql statement count c t untimed unshown is =
     (known_as schema sql statement count t untimed unshown c (is _)).0
 

@@ -21,9 +21,9 @@ abbrev pub by_one : List Term
 by_one = equals (col 1 0) (lit (Int (pos 1))) ∷ []
 
 -- the text sets the rows of the tree that pass the test to these terms, the rowid first
-abbrev pub IsSet : Schema → List ℕ → ℕ → ℕ → List Term → List Term → Type 0
-IsSet schema sql at tree test terms =
-    Means schema sql (Update at (record { lets = []; body = over tree test (col 1 0 ∷ terms) }))
+abbrev pub IsSet : Schema → List ℕ → ℕ → ℕ → ℕ → List Term → List Term → Type 0
+IsSet schema sql count at tree test terms =
+    Means schema sql count (Update at (record { lets = []; body = over tree test (col 1 0 ∷ terms) }))
 
 -- ---- the texts
 
@@ -34,12 +34,13 @@ abbrev pub sell_terms : List Term
 sell_terms = col 1 0 ∷ col 1 1 ∷ col 1 2 ∷ col 1 3 ∷ col 0 1 ∷ col 1 5 ∷ col 1 6 ∷ col 1 7 ∷ []
 
 pub sell_means : (schema : Schema) (at tree : ℕ) → TableExists schema at (vouchers tree)
-    → IsSet schema sell_text at tree by_code sell_terms
+    → IsSet schema sell_text 2 at tree by_code sell_terms
 unfolding everything
 sell_means schema at tree exists =
     means_is schema sell_text
     (update_where vouchers_name ((codes "sold", expr.Parameter 2) ∷ []) (codes "code") (expr.Parameter 1))
-    2 _ (record { parsed = _; read = refl; is = refl; timeless = refl; counted = refl }) refl (λ base. refl)
+    2 _ (record { parsed = _; read = refl; is = refl; timeless = refl; counted = refl; whole = refl }) refl
+    (λ base. refl)
     (λ base. simp (exists.named, exists.there, exists.low, exists.typed) refl)
 
 abbrev pub refund_text : List ℕ
@@ -49,14 +50,15 @@ abbrev pub refund_terms : List Term
 refund_terms = col 1 0 ∷ col 1 1 ∷ col 1 2 ∷ col 1 3 ∷ col 1 4 ∷ col 0 1 ∷ col 0 2 ∷ col 1 7 ∷ []
 
 pub refund_means : (schema : Schema) (at tree : ℕ) → TableExists schema at (vouchers tree)
-    → IsSet schema refund_text at tree by_code refund_terms
+    → IsSet schema refund_text 3 at tree by_code refund_terms
 unfolding everything
 refund_means schema at tree exists =
     means_is schema refund_text (update_where vouchers_name ((
       codes "refunded",
       expr.Parameter 2,
     ) ∷ (codes "amount", expr.Parameter 3) ∷ []) (codes "code") (expr.Parameter 1)) 3 _
-    (record { parsed = _; read = refl; is = refl; timeless = refl; counted = refl }) refl (λ base. refl)
+    (record { parsed = _; read = refl; is = refl; timeless = refl; counted = refl; whole = refl }) refl
+    (λ base. refl)
     (λ base. simp (exists.named, exists.there, exists.low, exists.typed) refl)
 
 abbrev pub set_moment_text : List ℕ
@@ -66,12 +68,13 @@ abbrev pub set_moment_terms : List Term
 set_moment_terms = col 1 0 ∷ lit Null ∷ col 1 2 ∷ col 0 0 ∷ col 1 4 ∷ col 1 5 ∷ []
 
 pub set_moment_means : (schema : Schema) (at tree : ℕ) → TableExists schema at (head tree)
-    → IsSet schema set_moment_text at tree by_one set_moment_terms
+    → IsSet schema set_moment_text 1 at tree by_one set_moment_terms
 unfolding everything
 set_moment_means schema at tree exists =
     means_is schema set_moment_text (update_where head_name
     ((codes "last_moment", expr.Parameter 1) ∷ []) (codes "id") (expr.Integer (codes "1")))
-    1 _ (record { parsed = _; read = refl; is = refl; timeless = refl; counted = refl }) refl (λ base. refl)
+    1 _ (record { parsed = _; read = refl; is = refl; timeless = refl; counted = refl; whole = refl }) refl
+    (λ base. refl)
     (λ base. simp (exists.named, exists.there, exists.low, exists.typed) refl)
 
 abbrev pub set_numbers_text : List ℕ
@@ -81,7 +84,7 @@ abbrev pub set_numbers_terms : List Term
 set_numbers_terms = col 1 0 ∷ lit Null ∷ col 1 2 ∷ col 0 0 ∷ col 0 1 ∷ col 0 2 ∷ []
 
 pub set_numbers_means : (schema : Schema) (at tree : ℕ) → TableExists schema at (head tree)
-    → IsSet schema set_numbers_text at tree by_one set_numbers_terms
+    → IsSet schema set_numbers_text 3 at tree by_one set_numbers_terms
 unfolding everything
 set_numbers_means schema at tree exists =
     means_is schema set_numbers_text (update_where head_name ((
@@ -91,7 +94,8 @@ set_numbers_means schema at tree exists =
       codes "sessions",
       expr.Parameter 3,
     ) ∷ []) (codes "id") (expr.Integer (codes "1"))) 3 _
-    (record { parsed = _; read = refl; is = refl; timeless = refl; counted = refl }) refl (λ base. refl)
+    (record { parsed = _; read = refl; is = refl; timeless = refl; counted = refl; whole = refl }) refl
+    (λ base. refl)
     (λ base. simp (exists.named, exists.there, exists.low, exists.typed) refl)
 
 abbrev pub set_layout_text : List ℕ
@@ -101,12 +105,13 @@ abbrev pub set_layout_terms : List Term
 set_layout_terms = col 1 0 ∷ lit Null ∷ col 0 0 ∷ col 1 3 ∷ col 1 4 ∷ col 1 5 ∷ []
 
 pub set_layout_means : (schema : Schema) (at tree : ℕ) → TableExists schema at (head tree)
-    → IsSet schema set_layout_text at tree by_one set_layout_terms
+    → IsSet schema set_layout_text 1 at tree by_one set_layout_terms
 unfolding everything
 set_layout_means schema at tree exists =
     means_is schema set_layout_text
     (update_where head_name ((codes "layout", expr.Parameter 1) ∷ []) (codes "id") (expr.Integer (codes "1")))
-    1 _ (record { parsed = _; read = refl; is = refl; timeless = refl; counted = refl }) refl (λ base. refl)
+    1 _ (record { parsed = _; read = refl; is = refl; timeless = refl; counted = refl; whole = refl }) refl
+    (λ base. refl)
     (λ base. simp (exists.named, exists.there, exists.low, exists.typed) refl)
 
 abbrev pub set_used_text : List ℕ
@@ -117,12 +122,13 @@ set_used_terms = col 1 0 ∷ lit Null ∷ col 1 2 ∷ col 1 3 ∷ col 1 4 ∷ co
     ∷ []
 
 pub set_used_means : (schema : Schema) (at tree : ℕ) → TableExists schema at (sessions tree)
-    → IsSet schema set_used_text at tree by_number set_used_terms
+    → IsSet schema set_used_text 2 at tree by_number set_used_terms
 unfolding everything
 set_used_means schema at tree exists =
     means_is schema set_used_text
     (update_where sessions_name ((codes "used", expr.Parameter 2) ∷ []) (codes "number") (expr.Parameter 1))
-    2 _ (record { parsed = _; read = refl; is = refl; timeless = refl; counted = refl }) refl (λ base. refl)
+    2 _ (record { parsed = _; read = refl; is = refl; timeless = refl; counted = refl; whole = refl }) refl
+    (λ base. refl)
     (λ base. simp (exists.named, exists.there, exists.low, exists.typed) refl)
 
 abbrev pub set_closed_text : List ℕ
@@ -133,12 +139,13 @@ set_closed_terms = col 1 0 ∷ lit Null ∷ col 1 2 ∷ col 1 3 ∷ col 1 4 ∷ 
     ∷ col 1 8 ∷ []
 
 pub set_closed_means : (schema : Schema) (at tree : ℕ) → TableExists schema at (sessions tree)
-    → IsSet schema set_closed_text at tree by_number set_closed_terms
+    → IsSet schema set_closed_text 2 at tree by_number set_closed_terms
 unfolding everything
 set_closed_means schema at tree exists =
     means_is schema set_closed_text
     (update_where sessions_name ((codes "closed", expr.Parameter 2) ∷ []) (codes "number") (expr.Parameter 1))
-    2 _ (record { parsed = _; read = refl; is = refl; timeless = refl; counted = refl }) refl (λ base. refl)
+    2 _ (record { parsed = _; read = refl; is = refl; timeless = refl; counted = refl; whole = refl }) refl
+    (λ base. refl)
     (λ base. simp (exists.named, exists.there, exists.low, exists.typed) refl)
 
 abbrev pub set_redeemed_text : List ℕ
@@ -148,12 +155,13 @@ abbrev pub set_redeemed_terms : List Term
 set_redeemed_terms = col 1 0 ∷ col 1 1 ∷ col 1 2 ∷ col 1 3 ∷ col 1 4 ∷ col 1 5 ∷ col 1 6 ∷ col 0 1 ∷ []
 
 pub set_redeemed_means : (schema : Schema) (at tree : ℕ) → TableExists schema at (vouchers tree)
-    → IsSet schema set_redeemed_text at tree by_code set_redeemed_terms
+    → IsSet schema set_redeemed_text 2 at tree by_code set_redeemed_terms
 unfolding everything
 set_redeemed_means schema at tree exists =
     means_is schema set_redeemed_text
     (update_where vouchers_name ((codes "redeemed", expr.Parameter 2) ∷ []) (codes "code") (expr.Parameter 1))
-    2 _ (record { parsed = _; read = refl; is = refl; timeless = refl; counted = refl }) refl (λ base. refl)
+    2 _ (record { parsed = _; read = refl; is = refl; timeless = refl; counted = refl; whole = refl }) refl
+    (λ base. refl)
     (λ base. simp (exists.named, exists.there, exists.low, exists.typed) refl)
 
 abbrev pub set_total_text : List ℕ
@@ -164,12 +172,13 @@ set_total_terms = col 1 0 ∷ lit Null ∷ col 1 2 ∷ col 1 3 ∷ col 1 4 ∷ c
     ∷ []
 
 pub set_total_means : (schema : Schema) (at tree : ℕ) → TableExists schema at (sessions tree)
-    → IsSet schema set_total_text at tree by_number set_total_terms
+    → IsSet schema set_total_text 3 at tree by_number set_total_terms
 unfolding everything
 set_total_means schema at tree exists =
     means_is schema set_total_text
     (update_where sessions_name ((codes "ends", expr.Parameter 2) ∷ (codes "remaining", expr.Parameter 3) ∷
     [])
     (codes "number") (expr.Parameter 1))
-    3 _ (record { parsed = _; read = refl; is = refl; timeless = refl; counted = refl }) refl (λ base. refl)
+    3 _ (record { parsed = _; read = refl; is = refl; timeless = refl; counted = refl; whole = refl }) refl
+    (λ base. refl)
     (λ base. simp (exists.named, exists.there, exists.low, exists.typed) refl)

@@ -106,7 +106,7 @@ all_pass (r ∷ rows) = ap (λ xs. r ∷ xs) (all_pass rows)
 
 module _ (sql : List ℕ) (table : Table) (names : List (List ℕ)) (old new : State) where
   -- a text that means all columns of the table in the order of the rowids gives the rows of the table
-  pub whole_table : IsSelect old.now.schema sql table [] by_rowid unlimited names
+  pub whole_table : {n : ℕ} → IsSelect old.now.schema sql n table [] by_rowid unlimited names
       → IsTable (old.now.trees table.tree) → (rows : List Row) → Shown sql [] old new rows
       → rows ≡ rows_in table old.now.trees
   whole_table s up rows h =
@@ -125,8 +125,8 @@ module _ (sql : List ℕ) (table : Table) (names : List (List ℕ)) (old new : S
 -- ---- some columns of the rows that pass, in the order of the rowids
 
 -- what such a text means
-abbrev pub IsSelectOf : Schema → List ℕ → Table → List Term → List Term → List (List ℕ) → Type 0
-IsSelectOf schema sql table terms shows names = Means schema sql
+abbrev pub IsSelectOf : Schema → List ℕ → ℕ → Table → List Term → List Term → List (List ℕ) → Type 0
+IsSelectOf schema sql count table terms shows names = Means schema sql count
     (Select (record { lets = []; body = simple (inner table.tree end) terms shows by_rowid unlimited }) names)
 
 kept_table : (p : Row → Bool) (rows : List Row) → IsTable rows → IsTable (filter p rows)
@@ -143,7 +143,7 @@ module _ (sql : List ℕ) (table : Table) (terms shows : List Term) (params : Ro
     (names : List (List ℕ)) (old new : State)
     (p : Row → Bool) (tests : (r : Row) → passes terms params r ≡ p (fields table r)) (f : Row → Row)
     (shown : (r : Row) → shown_of shows params r ≡ f (fields table r)) where
-  pub some_columns : IsSelectOf old.now.schema sql table terms shows names
+  pub some_columns : {n : ℕ} → IsSelectOf old.now.schema sql n table terms shows names
       → IsTable (old.now.trees table.tree) → (rows : List Row) → Shown sql params old new rows
       → rows ≡ map f (filter p (rows_in table old.now.trees))
   some_columns s up rows h =

@@ -12,6 +12,8 @@ use Rattle.portal_tables_sql.specs.Tables.{grants_name, counts_name, totals_name
 use Rattle.portal_tables_sql.proofs.SelectTexts.{batch_columns, plan_columns, session_columns}
 use Rattle.portal_tables_sql.proofs.SelectTexts.{voucher_columns, head_columns}
 use Rattle.portal_tables_sql.proofs.RequestTexts.{request_columns}
+use Rattle.portal_tables_sql.specs.Causes.{IsTaken}
+use Rattle.portal_tables_sql.proofs.Causes.{text_taken}
 use Rattle.sqlite_tied.specs.Compute.{everything}
 use Rattle.portal_tables_sql.proofs.WholeTables.{by_rowid, has_rowids}
 
@@ -21,14 +23,14 @@ all_plans_text =
 
 pub all_plans_means : (schema : Schema) (keyed : Bool) (at tree : ℕ)
     → TableExists schema at (plans_in keyed tree)
-    → IsSelect schema all_plans_text (plans_in keyed tree) [] by_rowid unlimited plan_columns
+    → IsSelect schema all_plans_text 0 (plans_in keyed tree) [] by_rowid unlimited plan_columns
 unfolding everything
 all_plans_means schema keyed at tree exists =
     select_means schema all_plans_text plans_name plan_columns None (up (codes "rowid")) None 0
     (lit (Int (negsuc 0)), lit (Int (pos 0)))
     (drafted tree [] (all_columns (plans_in keyed tree)) by_rowid unlimited) (Some Binary
     ∷ Some Binary ∷ Some Binary ∷ Some Binary ∷ Some Binary ∷ Some Binary ∷ Some Binary ∷ [])
-    (record { parsed = _; read = refl; is = refl; timeless = refl; counted = refl }) refl refl
+    (record { parsed = _; read = refl; is = refl; timeless = refl; counted = refl; whole = refl }) refl refl
     (simp (exists.named, exists.there, has_rowids tree exists.low) refl)
     (simp (exists.low, exists.typed) refl) refl (λ base. refl)
 
@@ -37,16 +39,23 @@ all_batches_text = codes "SELECT id, plan_id, issued, expires, size FROM portal_
 
 pub all_batches_means : (schema : Schema) (keyed : Bool) (at tree : ℕ)
     → TableExists schema at (batches_in keyed tree)
-    → IsSelect schema all_batches_text (batches_in keyed tree) [] by_rowid unlimited batch_columns
+    → IsSelect schema all_batches_text 0 (batches_in keyed tree) [] by_rowid unlimited batch_columns
 unfolding everything
 all_batches_means schema keyed at tree exists =
     select_means schema all_batches_text batches_name batch_columns None (up (codes "rowid")) None 0
     (lit (Int (negsuc 0)), lit (Int (pos 0)))
     (drafted tree [] (all_columns (batches_in keyed tree)) by_rowid unlimited)
     (Some Binary ∷ Some Binary ∷ Some Binary ∷ Some Binary ∷ Some Binary ∷ [])
-    (record { parsed = _; read = refl; is = refl; timeless = refl; counted = refl }) refl refl
+    (record { parsed = _; read = refl; is = refl; timeless = refl; counted = refl; whole = refl }) refl refl
     (simp (exists.named, exists.there, has_rowids tree exists.low) refl)
     (simp (exists.low, exists.typed) refl) refl (λ base. refl)
+
+pub all_batches_taken : (schema : Schema) (keyed : Bool) (at tree : ℕ)
+    → TableExists schema at (batches_in keyed tree)
+    → IsTaken all_batches_text [] schema
+unfolding everything
+all_batches_taken schema keyed at tree exists =
+    text_taken (all_batches_means schema keyed at tree exists) [] refl (simp (exists.low, exists.typed) refl)
 
 abbrev pub all_vouchers_text : List ℕ
 all_vouchers_text =
@@ -54,14 +63,14 @@ all_vouchers_text =
     ++ codes "ORDER BY rowid"
 
 pub all_vouchers_means : (schema : Schema) (at tree : ℕ) → TableExists schema at (vouchers tree)
-    → IsSelect schema all_vouchers_text (vouchers tree) [] by_rowid unlimited voucher_columns
+    → IsSelect schema all_vouchers_text 0 (vouchers tree) [] by_rowid unlimited voucher_columns
 unfolding everything
 all_vouchers_means schema at tree exists =
     select_means schema all_vouchers_text vouchers_name voucher_columns None (up (codes "rowid")) None 0
     (lit (Int (negsuc 0)), lit (Int (pos 0)))
     (drafted tree [] (all_columns (vouchers tree)) by_rowid unlimited) (Some Binary
     ∷ Some Binary ∷ Some Binary ∷ Some Binary ∷ Some Binary ∷ Some Binary ∷ Some Binary ∷ [])
-    (record { parsed = _; read = refl; is = refl; timeless = refl; counted = refl }) refl refl
+    (record { parsed = _; read = refl; is = refl; timeless = refl; counted = refl; whole = refl }) refl refl
     (simp (exists.named, exists.there, has_rowids tree exists.low) refl)
     (simp (exists.low, exists.typed) refl) refl (λ base. refl)
 
@@ -71,14 +80,14 @@ all_sessions_text =
     ++ codes "ORDER BY number"
 
 pub all_sessions_means : (schema : Schema) (at tree : ℕ) → TableExists schema at (sessions tree)
-    → IsSelect schema all_sessions_text (sessions tree) [] by_rowid unlimited session_columns
+    → IsSelect schema all_sessions_text 0 (sessions tree) [] by_rowid unlimited session_columns
 unfolding everything
 all_sessions_means schema at tree exists =
     select_means schema all_sessions_text sessions_name session_columns None (up (codes "number")) None 0
     (lit (Int (negsuc 0)), lit (Int (pos 0)))
     (drafted tree [] (all_columns (sessions tree)) by_rowid unlimited) (None
     ∷ Some Binary ∷ Some Binary ∷ Some Binary ∷ Some Binary ∷ Some Binary ∷ Some Binary ∷ Some Binary ∷ [])
-    (record { parsed = _; read = refl; is = refl; timeless = refl; counted = refl }) refl refl
+    (record { parsed = _; read = refl; is = refl; timeless = refl; counted = refl; whole = refl }) refl refl
     (simp (exists.named, exists.there) refl) (simp (exists.low, exists.typed) refl) refl (λ base. refl)
 
 abbrev pub all_grants_text : List ℕ
@@ -91,14 +100,14 @@ all_grants_columns =
 
 pub all_grants_means : (schema : Schema) (keyed : Bool) (at tree : ℕ)
     → TableExists schema at (grants_in keyed tree)
-    → IsSelect schema all_grants_text (grants_in keyed tree) [] by_rowid unlimited all_grants_columns
+    → IsSelect schema all_grants_text 0 (grants_in keyed tree) [] by_rowid unlimited all_grants_columns
 unfolding everything
 all_grants_means schema keyed at tree exists =
     select_means schema all_grants_text grants_name all_grants_columns None (up (codes "number")) None 0
     (lit (Int (negsuc 0)), lit (Int (pos 0)))
     (drafted tree [] (all_columns (grants_in keyed tree)) by_rowid unlimited) (None
     ∷ Some Binary ∷ Some Binary ∷ Some Binary ∷ Some Binary ∷ Some Binary ∷ [])
-    (record { parsed = _; read = refl; is = refl; timeless = refl; counted = refl }) refl refl
+    (record { parsed = _; read = refl; is = refl; timeless = refl; counted = refl; whole = refl }) refl refl
     (simp (exists.named, exists.there) refl) (simp (exists.low, exists.typed) refl) refl (λ base. refl)
 
 abbrev pub all_heads_text : List ℕ
@@ -106,14 +115,14 @@ all_heads_text = codes "SELECT id, layout, last_moment, grants, sessions FROM po
 
 pub all_heads_means : (schema : Schema) (keyed : Bool) (at tree : ℕ)
     → TableExists schema at (head_in keyed tree)
-    → IsSelect schema all_heads_text (head_in keyed tree) [] by_rowid unlimited head_columns
+    → IsSelect schema all_heads_text 0 (head_in keyed tree) [] by_rowid unlimited head_columns
 unfolding everything
 all_heads_means schema keyed at tree exists =
     select_means schema all_heads_text head_name head_columns None (up (codes "id")) None 0
     (lit (Int (negsuc 0)), lit (Int (pos 0)))
     (drafted tree [] (all_columns (head_in keyed tree)) by_rowid unlimited)
     (None ∷ Some Binary ∷ Some Binary ∷ Some Binary ∷ Some Binary ∷ [])
-    (record { parsed = _; read = refl; is = refl; timeless = refl; counted = refl }) refl refl
+    (record { parsed = _; read = refl; is = refl; timeless = refl; counted = refl; whole = refl }) refl refl
     (simp (exists.named, exists.there, has_rowids tree exists.low) refl)
     (simp (exists.low, exists.typed) refl) refl (λ base. refl)
 
@@ -124,7 +133,7 @@ all_requests_text =
 
 pub all_requests_means : (schema : Schema) (keyed : Bool) (at tree : ℕ)
     → TableExists schema at (requests_in keyed tree)
-    → IsSelect schema all_requests_text (requests_in keyed tree) [] by_rowid unlimited request_columns
+    → IsSelect schema all_requests_text 0 (requests_in keyed tree) [] by_rowid unlimited request_columns
 unfolding everything
 all_requests_means schema keyed at tree exists =
     select_means schema all_requests_text requests_name request_columns None (up (codes "rowid")) None 0
@@ -132,7 +141,7 @@ all_requests_means schema keyed at tree exists =
     (drafted tree [] (all_columns (requests_in keyed tree)) by_rowid unlimited)
     (Some Binary ∷ Some Binary ∷ Some Binary ∷ Some Binary ∷ Some Binary
     ∷ Some Binary ∷ Some Binary ∷ Some Binary ∷ Some Binary ∷ Some Binary ∷ [])
-    (record { parsed = _; read = refl; is = refl; timeless = refl; counted = refl }) refl refl
+    (record { parsed = _; read = refl; is = refl; timeless = refl; counted = refl; whole = refl }) refl refl
     (simp (exists.named, exists.there, has_rowids tree exists.low) refl)
     (simp (exists.low, exists.typed) refl) refl (λ base. refl)
 
@@ -155,14 +164,14 @@ old_vouchers_text =
 
 pub old_vouchers_means : (schema : Schema) (keyed : Bool) (at tree : ℕ)
     → TableExists schema at (vouchers_in keyed tree)
-    → IsSelect schema old_vouchers_text (vouchers_in keyed tree) [] by_rowid unlimited old_voucher_columns
+    → IsSelect schema old_vouchers_text 0 (vouchers_in keyed tree) [] by_rowid unlimited old_voucher_columns
 unfolding everything
 old_vouchers_means schema keyed at tree exists =
     select_means schema old_vouchers_text vouchers_name old_voucher_columns None (up (codes "rowid")) None 0
     (lit (Int (negsuc 0)), lit (Int (pos 0)))
     (drafted tree [] (all_columns (vouchers_in keyed tree)) by_rowid unlimited) (Some Binary
     ∷ Some Binary ∷ Some Binary ∷ Some Binary ∷ Some Binary ∷ Some Binary ∷ [])
-    (record { parsed = _; read = refl; is = refl; timeless = refl; counted = refl }) refl refl
+    (record { parsed = _; read = refl; is = refl; timeless = refl; counted = refl; whole = refl }) refl refl
     (simp (exists.named, exists.there, has_rowids tree exists.low) refl)
     (simp (exists.low, exists.typed) refl) refl (λ base. refl)
 
@@ -172,14 +181,14 @@ old_sessions_text =
 
 pub old_sessions_means : (schema : Schema) (keyed : Bool) (at tree : ℕ)
     → TableExists schema at (sessions_in keyed tree)
-    → IsSelect schema old_sessions_text (sessions_in keyed tree) [] by_rowid unlimited old_session_columns
+    → IsSelect schema old_sessions_text 0 (sessions_in keyed tree) [] by_rowid unlimited old_session_columns
 unfolding everything
 old_sessions_means schema keyed at tree exists =
     select_means schema old_sessions_text sessions_name old_session_columns None (up (codes "number")) None 0
     (lit (Int (negsuc 0)), lit (Int (pos 0)))
     (drafted tree [] (all_columns (sessions_in keyed tree)) by_rowid unlimited) (None
     ∷ Some Binary ∷ Some Binary ∷ Some Binary ∷ Some Binary ∷ Some Binary ∷ [])
-    (record { parsed = _; read = refl; is = refl; timeless = refl; counted = refl }) refl refl
+    (record { parsed = _; read = refl; is = refl; timeless = refl; counted = refl; whole = refl }) refl refl
     (simp (exists.named, exists.there) refl) (simp (exists.low, exists.typed) refl) refl (λ base. refl)
 
 abbrev pub old_counts_text : List ℕ
@@ -187,13 +196,13 @@ old_counts_text = codes "SELECT code, redeemed FROM portal_counts ORDER BY rowid
 
 pub old_counts_means : (schema : Schema) (keyed : Bool) (at tree : ℕ)
     → TableExists schema at (counts_in keyed tree)
-    → IsSelect schema old_counts_text (counts_in keyed tree) [] by_rowid unlimited count_columns
+    → IsSelect schema old_counts_text 0 (counts_in keyed tree) [] by_rowid unlimited count_columns
 unfolding everything
 old_counts_means schema keyed at tree exists =
     select_means schema old_counts_text counts_name count_columns None (up (codes "rowid")) None 0
     (lit (Int (negsuc 0)), lit (Int (pos 0)))
     (drafted tree [] (all_columns (counts_in keyed tree)) by_rowid unlimited) (Some Binary ∷ Some Binary ∷ [])
-    (record { parsed = _; read = refl; is = refl; timeless = refl; counted = refl }) refl refl
+    (record { parsed = _; read = refl; is = refl; timeless = refl; counted = refl; whole = refl }) refl refl
     (simp (exists.named, exists.there, has_rowids tree exists.low) refl)
     (simp (exists.low, exists.typed) refl) refl (λ base. refl)
 
@@ -205,12 +214,12 @@ old_totals_text = codes "SELECT number, ends, remaining FROM portal_totals ORDER
 
 pub old_totals_means : (schema : Schema) (keyed : Bool) (at tree : ℕ)
     → TableExists schema at (totals_in keyed tree)
-    → IsSelect schema old_totals_text (totals_in keyed tree) [] by_rowid unlimited total_columns
+    → IsSelect schema old_totals_text 0 (totals_in keyed tree) [] by_rowid unlimited total_columns
 unfolding everything
 old_totals_means schema keyed at tree exists =
     select_means schema old_totals_text totals_name total_columns None (up (codes "number")) None 0
     (lit (Int (negsuc 0)), lit (Int (pos 0)))
     (drafted tree [] (all_columns (totals_in keyed tree)) by_rowid unlimited)
     (None ∷ Some Binary ∷ Some Binary ∷ [])
-    (record { parsed = _; read = refl; is = refl; timeless = refl; counted = refl }) refl refl
+    (record { parsed = _; read = refl; is = refl; timeless = refl; counted = refl; whole = refl }) refl refl
     (simp (exists.named, exists.there) refl) (simp (exists.low, exists.typed) refl) refl (λ base. refl)

@@ -97,7 +97,7 @@ module _ (sql : List ℕ) (params : Row) (old new : State) (at : ℕ) (t : Table
     (there : slice_get old.now.schema.tables at ≡ Some (simple t)) (count : ℕ)
     (ran : Executes sql params old new (Ok count)) where
   pub insert_edits : (terms : List Term) (width : ℕ)
-      → Means old.now.schema sql (Insert at (Values terms width)) → length terms / width ≡ 1
+      → {n : ℕ} → Means old.now.schema sql n (Insert at (Values terms width)) → length terms / width ≡ 1
       → Edits old new old.now.schema
       (edit_of old.now.trees (simple t) [] Chosen 0 (eval_all (take width terms) (params ∷ []) ∷ []))
   insert_edits terms width means one =
@@ -109,7 +109,8 @@ module _ (sql : List ℕ) (params : Row) (old new : State) (at : ℕ) (t : Table
       None (Insert at (Values terms width)) old.now.trees) o (Ok (w.tally, new.now))) there w.changed) in
       record { schema_is = it.0; applies = it.1; shown = w.shown; sound = w.sound }
 
-  pub update_edits : (q : Query) → Means old.now.schema sql (Update at (record { lets = []; body = q }))
+  pub update_edits : (q : Query) → {n : ℕ}
+      → Means old.now.schema sql n (Update at (record { lets = []; body = q }))
       → IsUnacted old.now.schema t.tree
       → (rows : List Row) × IsAnswer q (overlay old.now.trees []) params rows
       × Edits old new old.now.schema (edit_of old.now.trees (simple t) (ids_of rows) Given 1 rows)

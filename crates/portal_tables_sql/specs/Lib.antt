@@ -1,4 +1,5 @@
 pub mod Asks
+pub mod Causes
 pub mod Commits
 pub mod Copies
 pub mod Dropped

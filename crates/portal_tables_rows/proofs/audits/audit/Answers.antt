@@ -62,7 +62,7 @@ returns-in_err-batches g c =
 pub returns-in_err-requests : goal.returns-in_err-requests
 returns-in_err-requests g c =
     open_fails g.S.Store c.from_residual-in_err-requests.result
-    c.from_residual-in_err-requests.ensures.1 (open_own g.S.Store (λ t own. tt)
+    c.from_residual-in_err-requests.ensures.1 (open_own g.S.Store (λ t own. own.0.requests)
     (open_then g.S.Store all_stand (row_opened g.S.Store c.in_ok-head.ensures)
     (open_then g.S.Store all_stand c.in_ok-rows.ensures
     (open_then g.S.Store all_stand (row_opened g.S.Store c.in_ok-batches.ensures)

@@ -4,7 +4,7 @@ use Rattle.portal_tables_rows.proofs.Common.{IsOwnWholeSession}
 use Rattle.portal_tables_rows.proofs.Cells.{exact_whole_session}
 use Rattle.portal_tables_rows.proofs.ManyValues.{own_sessions}
 use Rattle.portal_tables_rows.proofs.Parts.{part_has, part_last, part_no_last}
-use Rattle.portal_tables_rows.proofs.Reading.{last_session_rows_are, last_session_plain}
+use Rattle.portal_tables_rows.proofs.Reading.{last_session_rows_are, last_session_taken}
 use Rattle.portal_tables_rows.proofs.Finding.{reads_one, by_last, tells_of}
 use Rattle.portal_tables_sql.proofs.TableLemmas.{always}
 use Rattle.portal_tables_sql.specs.declared.our_tables.OurTable.TheVariants as our
@@ -16,7 +16,7 @@ returns-clause-reads g c =
     let device_of = λ (x : SessionRow). x.device in
     let number_of = λ (x : SessionRow). x.number in
     let text = text_of_device c.args.device.now in
-    reads_one g.S.Store _ _ last_session_plain
+    reads_one g.S.Store _ _ (last_session_taken _)
     (λ rows shown t h. let was = h.store our.Sessions (always _, tt) in
     let it = last_session_rows_are _ _ text rows shown t h in
     tells_of

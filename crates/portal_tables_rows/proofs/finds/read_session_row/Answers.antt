@@ -4,7 +4,7 @@ use Rattle.portal_tables_rows.proofs.Common.{IsOwnWholeSession, total_of}
 use Rattle.portal_tables_rows.proofs.Cells.{exact_whole_session}
 use Rattle.portal_tables_rows.proofs.ManyValues.{own_sessions}
 use Rattle.portal_tables_rows.proofs.Parts.{part_found, part_has, part_missing}
-use Rattle.portal_tables_rows.proofs.Reading.{session_rows_are, session_plain}
+use Rattle.portal_tables_rows.proofs.Reading.{session_rows_are, session_taken}
 use Rattle.portal_tables_rows.proofs.Finding.{reads_one, by_key, tells_of}
 use Rattle.portal_tables_sql.proofs.TableLemmas.{always}
 use Rattle.portal_tables_sql.specs.declared.our_tables.OurTable.TheVariants as our
@@ -15,7 +15,7 @@ returns-clause-reads g c =
     let row = λ (w : WholeSession). w.row in
     let number_of = λ (x : SessionRow). x.number in
     let n = c.args.number in
-    reads_one g.S.Store _ _ session_plain
+    reads_one g.S.Store _ _ (session_taken _)
     (λ rows shown t h. let was = h.store our.Sessions (always _, tt) in
     tells_of
     (λ own. own_sessions was.whole t.sessions t.totals was.their_rows was.their_totals own.0 own.1)

@@ -4,7 +4,7 @@ use Rattle.portal_tables_rows.proofs.Common.{IsOwnWholeVoucher}
 use Rattle.portal_tables_rows.proofs.Cells.{exact_whole_voucher}
 use Rattle.portal_tables_rows.proofs.ManyValues.{own_vouchers}
 use Rattle.portal_tables_rows.proofs.Parts.{part_found, part_has, part_missing}
-use Rattle.portal_tables_rows.proofs.Reading.{voucher_rows_are, voucher_plain}
+use Rattle.portal_tables_rows.proofs.Reading.{voucher_rows_are, voucher_taken}
 use Rattle.portal_tables_rows.proofs.Finding.{reads_one, by_key, tells_of}
 use Rattle.portal_tables_sql.proofs.TableLemmas.{always}
 use Rattle.portal_tables_sql.specs.declared.our_tables.OurTable.TheVariants as our
@@ -15,7 +15,7 @@ returns-clause-reads g c =
     let row = λ (w : WholeVoucher). w.row in
     let code_of = λ (x : VoucherRow). x.code in
     let text = text_of c.args.code.now in
-    reads_one g.S.Store _ _ voucher_plain
+    reads_one g.S.Store _ _ (voucher_taken _)
     (λ rows shown t h. let was = h.store our.Vouchers (always _, tt) in
     tells_of (own_vouchers was.whole t.vouchers was.their_rows)
     (by_key whole_voucher_cells 7 (λ x. refl) exact_whole_voucher whole_voucher_read IsOwnWholeVoucher 0

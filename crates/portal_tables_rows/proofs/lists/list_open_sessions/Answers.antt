@@ -3,7 +3,7 @@ use Rattle.portal_tables_rows.proofs.Common.{whole_session_cells, whole_session_
 use Rattle.portal_tables_rows.proofs.Common.{IsOwnWholeSession, is_open_row}
 use Rattle.portal_tables_rows.proofs.Cells.{exact_whole_session}
 use Rattle.portal_tables_rows.proofs.ManyValues.{own_sessions, reads_many, tells_whole}
-use Rattle.portal_tables_rows.proofs.OpenReading.{open_rows_are, open_simple, own_open}
+use Rattle.portal_tables_rows.proofs.OpenReading.{open_rows_are, open_taken, own_open}
 use Rattle.portal_tables_sql.proofs.TableLemmas.{always}
 use Rattle.portal_tables_sql.specs.declared.our_tables.OurTable.TheVariants as our
 use Rattle.portal_tables_rows.proofs.lists.list_open_sessions.Goals as goal
@@ -12,7 +12,7 @@ pub returns-clause-reads : goal.returns-clause-reads
 returns-clause-reads g c =
     let small : c.get.result < 2 ^ 63 = omega arith in
     let at = c.args.at in
-    reads_many g.S.Store _ _ open_simple
+    reads_many g.S.Store _ _ (open_taken _)
     (λ rows shown t h.
     let was = h.store our.Sessions (always _, tt) in
     let it = tells_whole whole_session_cells 8 (λ x. refl) exact_whole_session IsOwnWholeSession

@@ -3,7 +3,7 @@ use Rattle.portal_tables_rows.proofs.Common.{VoucherRow, IsOwnSale, is_within, s
 use Rattle.portal_tables_rows.proofs.Common.{sale_read}
 use Rattle.portal_tables_rows.proofs.OwnRows.{own_rows, own_sales}
 use Rattle.portal_tables_rows.proofs.Listing.{exact_sale}
-use Rattle.portal_tables_rows.proofs.ListReading.{sold_rows_are, sold_simple}
+use Rattle.portal_tables_rows.proofs.ListReading.{sold_rows_are, sold_taken}
 use Rattle.portal_tables_rows.proofs.ManyValues.{reads_many, tells_whole}
 use Rattle.portal_tables_rows.proofs.lists.list_sales_as_issued.Goals as goal
 
@@ -11,7 +11,7 @@ pub returns : goal.returns
 returns g c =
     let low : c.get.result < 2 ^ 63 = omega arith in
     let high : c.get-2.result < 2 ^ 63 = omega arith in
-    reads_many g.S.Store _ _ sold_simple
+    reads_many g.S.Store _ _ (sold_taken _ _)
     (λ rows shown t h.
     let sold =
     map sale_columns (filter (λ (v : VoucherRow). is_within c.args.from c.args.to v.sold) t.vouchers) in

@@ -2,7 +2,7 @@ use Rattle.portal_tables_rows.proofs.Common.{◌<◌, ◌^◌, ◌∙◌, w64, L
 use Rattle.portal_tables_rows.proofs.Common.{err_from_is_err_and, map-map, AreOwn, VoucherRow, VoucherValue}
 use Rattle.portal_tables_rows.proofs.Common.{voucher_read, is_within, by_sale, sale_columns, IsSome}
 use Rattle.portal_tables_rows.proofs.OwnRows.{listed_own, within_some}
-use Rattle.portal_tables_rows.proofs.ListReading.{ordered_rows_are, ordered_simple}
+use Rattle.portal_tables_rows.proofs.ListReading.{ordered_rows_are, ordered_taken}
 use Rattle.portal_tables_rows.proofs.ManyValues.{lists_vouchers, row_fails, row_made}
 use Rattle.portal_tables_rows.proofs.lists.list_sales_by_moment.Goals as goal
 
@@ -13,7 +13,7 @@ returns g c =
     let vouchers = c.in_ok-vouchers.vouchers.items in
     row_made g.S.Store _
     (lists_vouchers g.S.Store _ _ (λ (v : VoucherRow). is_within c.args.from c.args.to v.sold) by_sale
-    ordered_simple (λ rows shown t h. ordered_rows_are _ _ c.args.from c.args.to rows t h shown)
+    (ordered_taken _ _) (λ rows shown t h. ordered_rows_are _ _ c.args.from c.args.to rows t h shown)
     (rw (
       c.params-to_sql.ensures,
       c.params-to_sql-2.ensures,
@@ -37,7 +37,7 @@ returns-in_err-vouchers g c =
     let high : c.get-2.result < 2 ^ 63 = omega arith in
     row_fails g.S.Store c.from_residual.result c.from_residual.ensures.1
     (lists_vouchers g.S.Store _ _ (λ (v : VoucherRow). is_within c.args.from c.args.to v.sold) by_sale
-    ordered_simple (λ rows shown t h. ordered_rows_are _ _ c.args.from c.args.to rows t h shown)
+    (ordered_taken _ _) (λ rows shown t h. ordered_rows_are _ _ c.args.from c.args.to rows t h shown)
     (rw (
       c.params-to_sql.ensures,
       c.params-to_sql-2.ensures,
@@ -56,7 +56,7 @@ returns-in_err-sales_of_vouchers g c =
     let vouchers = c.in_ok-vouchers.vouchers.items in
     row_made g.S.Store c.from_residual-in_err-sales_of_vouchers.result
     (lists_vouchers g.S.Store _ _ (λ (v : VoucherRow). is_within c.args.from c.args.to v.sold) by_sale
-    ordered_simple (λ rows shown t h. ordered_rows_are _ _ c.args.from c.args.to rows t h shown)
+    (ordered_taken _ _) (λ rows shown t h. ordered_rows_are _ _ c.args.from c.args.to rows t h shown)
     (rw (
       c.params-to_sql.ensures,
       c.params-to_sql-2.ensures,

@@ -3,7 +3,7 @@ use Rattle.portal_tables_rows.proofs.Common.{WholeVoucher, whole_voucher_cells, 
 use Rattle.portal_tables_rows.proofs.Common.{IsOwnWholeVoucher}
 use Rattle.portal_tables_rows.specs.Lists.{is_between, by_code}
 use Rattle.portal_tables_rows.proofs.Cells.{exact_whole_voucher}
-use Rattle.portal_tables_rows.proofs.PageReading.{between_rows_are, between_simple}
+use Rattle.portal_tables_rows.proofs.PageReading.{between_rows_are, between_taken}
 use Rattle.portal_tables_rows.proofs.ManyValues.{first_listed, own_vouchers, reads_many, tells_first}
 use Rattle.portal_tables_sql.proofs.TableLemmas.{always}
 use Rattle.portal_tables_sql.specs.declared.our_tables.OurTable.TheVariants as our
@@ -13,7 +13,7 @@ pub returns : goal.returns
 returns g c =
     let low = c.args.from.now in
     let high = c.args.below.now in
-    reads_many g.S.Store _ _ between_simple
+    reads_many g.S.Store _ _ (between_taken _ _)
     (λ rows shown t h.
     let was = h.store our.Vouchers (always _, tt) in
     let it = between_rows_are _ _ low high rows shown t h in

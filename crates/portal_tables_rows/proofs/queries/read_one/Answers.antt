@@ -2,6 +2,8 @@ use Rattle.portal_tables_rows.proofs.Common.{List, sym, ap, ◌∙◌, slice_get
 use Rattle.portal_tables_rows.proofs.Common.{reads_fails}
 use Rattle.sqlite.specs.Values.{bound}
 use Rattle.portal_tables_sql.proofs.AskLemmas.{asks_looks}
+use Rattle.portal_tables_sql.proofs.Causes.{taken_fails}
+use Rattle.portal_tables_rows.proofs.Caused.{error_caused}
 use Rattle.portal_tables_rows.proofs.queries.read_one.Goals as goal
 
 pub returns-in_err-rows : goal.returns-in_err-rows
@@ -14,7 +16,9 @@ returns-in_err-rows g c =
       rows = λ clean. rw told.1 tt;
       proper = rw told.1 tt;
       looks = rw told.1 (rw c.in_err-rows.was at looks);
-      own = λ clean owns. rw (told.1, told.2) tt;
+      caused = λ clean taken owns. rw (told.1, told.2) (taken_fails c.args.sql.now (bound c.args.params.now)
+          (state g.S.Store c.args.conn.now) (state g.S.Store c.query_all.new.self) _ taken
+          (rw c.in_err-rows.was at (c.query_all.ensures.err clean)));
     }
 
 pub returns-in_err-from_row-in-Some : goal.returns-in_err-from_row-in-Some
@@ -30,8 +34,10 @@ returns-in_err-from_row-in-Some g c =
       rows = λ clean. rw told.1 tt;
       proper = rw told.1 tt;
       looks = rw told.1 (reads_fails _ _ _ (rw c.in_ok-rows.was at looks));
-      own = λ clean owns. rw (told.1, told.2) (c.in_err-from_row-in-Some.ensures.own
-          (owns _ (c.in_ok-rows.ensures.ok clean) c.in-Some.row.now got));
+      caused = λ clean taken owns. let owned = owns _ (c.in_ok-rows.ensures.ok clean) c.in-Some.row.now got in
+          rw (told.1, told.2) (error_caused (state g.S.Store c.args.conn.now)
+          (state g.S.Store c.query_all.new.self) _
+          (c.in_err-from_row-in-Some.ensures.own owned.0 owned.1));
     }
 
 pub returns-in-Some : goal.returns-in-Some
@@ -49,7 +55,7 @@ returns-in-Some g c =
       );
       proper = c.in_ok-from_row-in-Some.ensures.proper;
       looks = rw c.in_ok-rows.was at looks;
-      own = λ clean owns. tt;
+      caused = λ clean taken owns. tt;
     }
 
 pub returns : goal.returns
@@ -63,5 +69,5 @@ returns g c =
       rows = λ clean. (c.in_ok-rows.rows.items, c.in_ok-rows.ensures.ok clean, got);
       proper = tt;
       looks = rw c.in_ok-rows.was at looks;
-      own = λ clean owns. tt;
+      caused = λ clean taken owns. tt;
     }

@@ -5,7 +5,7 @@ use Rattle.portal_tables_rows.proofs.rows.parse_printed_code.Goals as goal
 pub returns-in_default-clause-own : goal.returns-in_default-clause-own
 returns-in_default-clause-own c own =
     let found = code_reads c.args.text.now own in
-    c.in_default.ensures.err found.0 found.1
+    absurd (c.in_default.ensures.err found.0 found.1)
 
 pub returns-else-eq-clause-own : goal.returns-else-eq-clause-own
 returns-else-eq-clause-own c own =
@@ -14,4 +14,4 @@ returns-else-eq-clause-own c own =
     let characters = c.as_bytes.ensures in
     let bytes = c.as_bytes-2.ensures in
     let equal : c.as_bytes.result.now ≡ c.as_bytes-2.result.now = cc in
-    true≢false (sym ((bytes_eq-Decides _ _).1 equal) ∙ sym c.eq.ensures ∙ c.if-eq.false)
+    absurd (true≢false (sym ((bytes_eq-Decides _ _).1 equal) ∙ sym c.eq.ensures ∙ c.if-eq.false))
