@@ -15,6 +15,7 @@ pub mod ListLaws
 pub mod Lookups
 pub mod OpeningLemmas
 pub mod OthersLemmas
+pub mod OwnLedger
 pub mod PathLemmas
 pub mod PaymentLists
 pub mod PriceLemmas

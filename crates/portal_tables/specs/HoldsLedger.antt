@@ -19,6 +19,7 @@ use Rattle.portal_ledger.specs.declared.caller.Caller.{Caller}
 use Rattle.portal_ledger.specs.declared.request.KeptRequest.{KeptRequest}
 use Rattle.portal_ledger.specs.RequestRow.{RequestRow, row_of_request}
 use Rattle.portal_tables_sql.specs.Looks.{Looks}
+use Rattle.portal_tables_rows.specs.Foreign.{AreOwnRows}
 use Rattle.portal_tables_rows.specs.Holds.{Holds, HasTables, this_schema_version}
 use Rattle.portal_tables_rows.specs.Read.{session_read, session_total}
 use Rattle.portal_tables_rows.specs.declared.rows.RowError.{RowError}
@@ -73,6 +74,10 @@ all_contents_of schema_version r = contents_of (map row_of_request r.requests) s
 -- the tables hold just the rows of the ledger
 abbrev pub HoldsLedger : Ledger → Database → Type 0
 HoldsLedger L db = IsSound L × Holds db (all_contents_of this_schema_version (all_rows_of L))
+
+-- the rows of every sound ledger are rows that this product writes
+abbrev pub RowsAreOwn : Type 0
+RowsAreOwn = (L : Ledger) → IsSound L → AreOwnRows (all_contents_of this_schema_version (all_rows_of L))
 
 -- all tables but portal_requests hold just the rows of the history
 abbrev pub HoldsHistory : History → Database → Type 0

@@ -2,6 +2,7 @@
 
 ghost use Rattle.portal_ledger.specs.Ledger.{Ledger, IsSound};
 ghost use Rattle.portal_ledger.specs.States.{State as DeskState, MayBeFound, running};
+ghost use Rattle.portal_tables.specs.HoldsLedger.{RowsAreOwn};
 ghost use Rattle.portal_tables.specs.TablesRepresent.{
   ConnRepresents,
   CrashStatesOfConnHold,
@@ -25,6 +26,12 @@ pub fn tables_crash_states<S: Alter>(tables: &Tables<S>)
 #[tactic(auto, using(crate::proofs::StateLemmas::sound_at))]
 pub fn tables_are_sound<S: Alter>(tables: &Tables<S>)
     ensures { (L : Ledger) → TablesRepresent S.Store tables.now (running L) → IsSound L }
+{}
+
+/// Law: the rows of a sound ledger are rows that this product writes, so that none is read as foreign.
+#[tactic(auto, using(crate::proofs::OwnLedger::rows_are_own))]
+pub fn rows_are_own()
+    ensures { RowsAreOwn }
 {}
 
 /// Law: a ledger that files hold is sound.
