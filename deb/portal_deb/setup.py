@@ -37,7 +37,7 @@ from portal_field.doctor.network import is_on_every_address
 from portal_field.doctor.prices import plans
 from portal_field.doctor.running import NOTES
 from portal_field.lib.machine_time import Notes
-from portal_field.settings import accounts, clerk_account
+from portal_field.settings import accounts, clerk_account, socket_owners
 from portal_field.settings.accounts import fault_of_name
 from portal_field.settings.maker import Maker, are_files_good, examine, fault_of_settings, print_findings
 from portal_field.settings.samples import is_sample
@@ -322,6 +322,8 @@ def serve_pages(again: bool, keeper: Keeper) -> None:
     """Has nginx, the counter's own nginx and dnsmasq serve with their new files."""
     # a reload cannot go from every address to one: the old socket is still open when the new one is tried
     ctl("reload" if again and is_active("nginx.service") else "restart", "nginx.service", check=False)
+    # both at once, since an earlier version's nginx of the counter has another user
+    socket_owners.renew(lambda keys, units: ctl("show", "-p", keys, units).stdout)
     # after it: of earlier versions nginx itself had the counter's address; the counter's own tries for 2.5 s
     # to have it
     if not again or is_active("portal-counter.service"):

@@ -82,7 +82,7 @@ class CounterNginx(Nginx):
         for source, goal in (("nginx-main.conf", "nginx.conf"), ("nginx-counter.conf", "page.conf")):
             text = re.sub("@([A-Z_]+)@", lambda word: str(words[word[1]]), (FIELD / "counter" / source).read_text())
             text = text.replace("127.0.0.1:443", f"127.0.0.1:{self.port}").replace("/var/log/portal", str(folder))
-            (folder / "counter-nginx" / goal).write_text(text.replace("user www-data;", f"daemon off; {user()}"))
+            (folder / "counter-nginx" / goal).write_text(text.replace("user portal-counter-nginx;", f"daemon off; {user()}"))
 
     def door(self) -> socket.socket:
         """The Unix socket, listening, at which nginx looks for the page."""

@@ -19,10 +19,11 @@ import pytest
 from crowd import NO_LEASES, open_sessions, packets, share
 from e2e import forward_ipv6, names
 from lab import PEER, Lab
-from network import COUNTER, FIELD, MACS, NAME, OUTSIDE, PYTHON, USERS
+from network import COUNTER, FIELD, MACS, NAME, OUTSIDE, PYTHON, USERS, run
 from steady import assert_measured, wait_until
 
-IDS = {"portal-gateway": 7001, "portal-front": 7002, "portal-counter": 7003, "portal-clock": 7005, "www-data": 33}
+IDS = {"portal-gateway": 7001, "portal-front": 7002, "portal-counter": 7003, "portal-clock": 7005, "portal-counter-nginx": 7008,
+       "www-data": 33}
 PRINTER = "02:aa:00:00:00:03"
 CROWDED = 600       # sessions
 ASKED = 65535       # as many addresses as the set `asked` holds
@@ -45,8 +46,15 @@ def groups_of(service: str) -> tuple[int, str]:
     return IDS[unit["Service"].get("Group", service)], ",".join(str(IDS[name]) for name in more)
 
 
+def socket_owners(name: str) -> list[str]:
+    """Owner and group of a service's socket, by its unit."""
+    unit = (FIELD / f"units/{name}.socket").read_text()
+    return [re.findall(f"(?m)^{key}=(.*)", unit)[0] for key in ("SocketUser", "SocketGroup")]
+
+
 class GatewayLab(Lab):
-    """A lab whose services have the groups of their units, and nginx those of sysusers.conf."""
+    """A lab whose services have the groups of their units, and either nginx its user with the groups of sysusers.conf."""
+    COUNTER_NGINX = "portal-counter-nginx"
 
     def __init__(self, portal: str = "", changed: dict[str, Any] | None = None) -> None:
         super().__init__(portal, changed)
@@ -61,8 +69,10 @@ class GatewayLab(Lab):
             if line.startswith("m "):
                 members.setdefault(line.split()[2], []).append(line.split()[1])
         lines = [f"{name}:x:{IDS[name]}:{','.join(members.get(name, []))}\n"
-                 for name in ("portal-front", "portal-counter")]
+                 for name in ("portal-front", "portal-counter", self.COUNTER_NGINX)]
         (self.etc / "group").write_text(pathlib.Path("/etc/group").read_text() + "".join(lines))
+        user = f"{self.COUNTER_NGINX}:x:{IDS[self.COUNTER_NGINX]}:{IDS[self.COUNTER_NGINX]}::/:/usr/sbin/nologin\n"
+        (self.etc / "passwd").write_text(pathlib.Path("/etc/passwd").read_text() + user)
 
     def __enter__(self) -> GatewayLab:
         super().__enter__()
@@ -73,9 +83,25 @@ class GatewayLab(Lab):
         USERS.update(self.users)
         shutil.rmtree(self.etc, ignore_errors=True)
 
-    def opens(self, name: str, path: pathlib.Path) -> bool:
-        """Whether a process with the user and the groups of a service opens a socket."""
-        user, group, more = USERS[name]
+    def service(self, name: str) -> None:
+        """Starts a service; its socket is then that of its unit, as systemd makes it."""
+        super().service(name)
+        if name in ("front", "counter"):
+            path = self.root / f"run/portal-{name}/socket"
+            os.chown(path, *(IDS[owner] for owner in socket_owners(f"portal-{name}")))
+            path.parent.chmod(0o755)
+
+    def worker(self, name: str) -> tuple[int, int, str]:
+        """User, group and other groups of a worker of nginx, as the process has them."""
+        master = self.jobs[name].pid
+        child = run("pgrep", "-P", master, "-x", "nginx").stdout.split()[0]
+        status = pathlib.Path("/proc", child, "status").read_text()
+        user, group = (int(re.findall(rf"(?m)^{key}:\t\d+\t(\d+)", status)[0]) for key in ("Uid", "Gid"))
+        return user, group, ",".join(re.findall("(?m)^Groups:(.*)", status)[0].split())
+
+    def opens(self, who: tuple[int, int, str], path: pathlib.Path) -> bool:
+        """Whether a process with this user, group and other groups opens a socket."""
+        user, group, more = who
         groups = f"--groups={more}" if more else "--clear-groups"
         done = self.within("gw", "setpriv", f"--reuid={user}", f"--regid={group}", groups, PYTHON, "-c", OPEN, path,
                            check=False)
@@ -95,15 +121,21 @@ def test_one_count(lab: GatewayLab) -> None:
 
 def test_sockets(lab: GatewayLab) -> None:
     run = lab.root / "run"
-    assert not lab.opens("front", run / "portal-counter/socket"), (
+    assert not lab.opens(USERS["front"], run / "portal-counter/socket"), (
         "the guests' helper does not open the counter's socket")
-    assert not lab.opens("counter", run / "portal-front/socket"), (
+    assert not lab.opens(USERS["counter"], run / "portal-front/socket"), (
         "nor the counter's page the guests' socket")
-    assert (lab.opens("front", run / "portal-front/socket")
-            and lab.opens("counter", run / "portal-counter/socket")), (
+    assert (lab.opens(USERS["front"], run / "portal-front/socket")
+            and lab.opens(USERS["counter"], run / "portal-counter/socket")), (
         "each opens its own")
+    guests, counter = lab.worker("nginx"), lab.worker("counter-nginx")
+    assert guests[0] != counter[0], f"neither is the user of the other, whose memory it could read  [{guests} {counter}]"
+    assert not lab.opens(guests, run / "portal-counter/socket"), (
+        f"the nginx of the guests' page does not open the counter's socket  [{guests}]")
+    assert not lab.opens(counter, run / "portal-front/socket"), (
+        f"nor the counter's nginx the guests' socket  [{counter}]")
     codes = lab.codes("hour", 1)
-    assert len(codes) == 1 and lab.redeem("guest1", codes[0])[0] == 303, "nginx opens both"
+    assert len(codes) == 1 and lab.redeem("guest1", codes[0])[0] == 303, "either nginx opens its own"
 
 
 def elements(lab: GatewayLab, verb: str, mac: str, comment: str = "") -> None:

@@ -65,6 +65,8 @@ def run(*words: object, check: bool = True, **more: Any) -> subprocess.Completed
 
 
 class Network(Programs):
+    COUNTER_NGINX = "www-data"      # the user of the counter's nginx: one that every machine has
+
     def __init__(self, portal: str = "", changed: dict[str, Any] | None = None, offload: bool = False) -> None:
         super().__init__("portal-lab-")
         self.portal, self.changed, self.offload = shlex.split(portal or STAND_IN), changed or {}, offload
@@ -161,7 +163,8 @@ class Network(Programs):
         (root / "tmp").mkdir()
         (root / "run/portal-counter-nginx").mkdir(parents=True)
         for conf in (*(root / "etc/nginx/conf.d").iterdir(), *(etc / "counter-nginx").iterdir()):
-            conf.write_text(conf.read_text().replace("/var/log/portal", str(root / "log")))
+            text = conf.read_text().replace("user portal-counter-nginx;", f"user {self.COUNTER_NGINX};")
+            conf.write_text(text.replace("/var/log/portal", str(root / "log")))
         for name, (user, group, _) in USERS.items():
             for folder in (root / f"creds-{name}", root / f"run/portal-{name}"):
                 folder.mkdir(parents=True)

@@ -584,31 +584,36 @@ class Made(unittest.TestCase):
         maker.counter_is_apart = False
         maker.others()
         self.assertEqual((apart.exists(), together.exists()), (False, True))
+        self.assertEqual(self.unit("portal-counter.socket.d/together.conf")["Socket"]["SocketGroup"], "www-data", "whose user opens the socket then")
         self.assertEqual(together.read_text(), text)
         unit = (self.root / "etc/systemd/system/portal-counter-nginx.service").read_text()
         self.assertEqual(re.findall("(?m)^ConditionPathExists=(.*)$", unit),
                          ["|/etc/portal/counter-nginx/page.conf", "|/etc/portal/counter-nginx/venues.conf"], "one of both is enough")
         maker.counter_is_apart = True
         maker.others()
-        self.assertEqual((apart.read_text(), together.exists()), (text, False))
+        self.assertEqual((apart.read_text(), together.exists(), (self.root / setup.OPEN_TO_BOTH).exists()), (text, False, False))
 
     def may_open(self, owner: str) -> set[str]:
-        """The users in the group of a service's socket: by their units, and by sysusers."""
-        group = self.unit(owner + ".service")["Service"]["Group"]
+        """The users who open a service's socket: its owner, and those in its group, by their units and by sysusers."""
+        door = self.unit(owner + ".socket")["Socket"]
+        group = door["SocketGroup"]
         lines = (self.root / "etc/sysusers.d/portal.conf").read_text().splitlines()
         users = {line.split()[1] for line in lines if line.startswith("m ") and line.split()[2] == group}
         for name in SERVICES:
             service = self.unit(name + ".service")["Service"]
             groups = [service.get("Group", name), *service.get("SupplementaryGroups", "").split()]
             users |= {service["User"]} if group in groups else set()
-        return users
+        return users | {group, door["SocketUser"]}      # each user is in the group of its name
 
     def test_a_pages_socket_is_open_to_nginx_and_to_no_other_page(self) -> None:
-        for name in ("portal-front", "portal-counter"):
-            self.assertEqual(self.may_open(name), {name, "www-data"}, name)
+        """The nginx of the guests' page and that of the counter's are two users, neither of which is in another's group."""
+        main = (self.root / "etc/portal/counter-nginx/nginx.conf").read_text()
+        user = re.findall("(?m)^user (.*);", main)[0]
+        self.assertIn(f"u {user} -", (self.root / "etc/sysusers.d/portal.conf").read_text())
+        for name, nginx in (("portal-front", "www-data"), ("portal-counter", user)):
+            self.assertEqual(self.may_open(name), {name, nginx}, name)
             unit, door = self.unit(name + ".service"), self.unit(name + ".socket")["Socket"]
-            self.assertEqual((unit["Unit"]["Requires"], door["SocketUser"], door["SocketGroup"], door["SocketMode"]),
-                             (name + ".socket", name, unit["Service"]["Group"], "0660"))
+            self.assertEqual((unit["Unit"]["Requires"], door["SocketUser"], door["SocketMode"]), (name + ".socket", name, "0660"))
             conf = tomllib.loads((self.root / f"etc/portal/{name.removeprefix('portal-')}.toml").read_text())
             self.assertTrue(conf["socket"].endswith(door["ListenStream"]), "it listens where nginx looks")
 
@@ -616,9 +621,8 @@ class Made(unittest.TestCase):
         """They have neither secret nor network; the guests' page wants those which nginx asks."""
         unit, door = self.unit("portal-lookup@.service"), self.unit("portal-lookup@.socket")["Socket"]
         service = unit["Service"]
-        self.assertEqual(self.may_open("portal-lookup@"), {"www-data"})
-        self.assertEqual((door["SocketUser"], door["SocketGroup"], door["SocketMode"]), (service["User"], service["Group"], "0660"),
-                         "its watchdog asks it there, too")
+        self.assertEqual((self.may_open("portal-lookup@"), door["SocketUser"], door["SocketMode"]),
+                         ({"portal-lookup", "www-data"}, service["User"], "0660"), "its watchdog asks it there, too")
         self.assertEqual((service["User"], service.get("LoadCredential"), service["CapabilityBoundingSet"], service["IPAddressDeny"],
                           service["RestrictAddressFamilies"]), ("portal-lookup", None, "", "any", "AF_UNIX AF_NETLINK"))
         self.assertIn("u portal-lookup -", (self.root / "etc/sysusers.d/portal.conf").read_text())
@@ -647,8 +651,7 @@ class Made(unittest.TestCase):
         self.assertTrue(conf["paper"].endswith(door["Socket"]["ListenStream"]), "it listens where the page asks")
 
     def test_free_minutes_are_given_by_a_part_that_the_guests_page_alone_asks(self) -> None:
-        """It has the counter's token, and the page that guests reach has not; nginx, which is in the page's group, cannot
-        open its socket."""
+        """It has the counter's token, and the page that guests reach has not; nginx cannot open its socket."""
         unit, door = self.unit("portal-give.service"), self.unit("portal-give.socket")["Socket"]
         service = unit["Service"]
         self.assertEqual((door["SocketUser"], door["SocketMode"]), ("portal-front", "0600"))

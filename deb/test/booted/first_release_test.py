@@ -11,7 +11,7 @@ from dataclasses import dataclass
 import pytest
 from booted import Levels
 from machine import (
-    ACCOUNTS, AUTHORITY, COUNTER, FIELD, GUEST, HERE, PASSWORD, PLANS, Done, Gap, active, apt,
+    ACCOUNTS, AUTHORITY, COUNTER, FIELD, GUEST, HERE, PASSWORD, PLANS, Done, Gap, active, apt, as_worker,
     ask_for_a_lease, count_outside, counter, curl, edit_settings, inactive_units, is_online, journal, log_in,
     output, passes, put_certificate, request_json, request_text, serves, sessions, sh, tokens, until, waits)
 from needs import HISTORY
@@ -159,6 +159,19 @@ def test_no_question(upgrade: Upgrade) -> None:
     answer = log_in()
     assert answer[0] == 303 and counter("")[0] == 200 and ACCOUNTS.exists(), (
         f"the clerk logs in with the password of before  [{answer[0]}]")
+
+
+def test_guests_nginx_is_not_at_the_counter(upgrade: Upgrade) -> None:
+    """www-data was in the groups of both pages, and wrote the counter's log."""
+    door = "import socket; socket.socket(socket.AF_UNIX).connect('/run/portal-counter/socket')"
+    tried = [as_worker("nginx", "cat", str(ACCOUNTS)), as_worker("nginx", "python3", "-c", door)]
+    assert [done.returncode for done in tried] == [1, 1] and all("Permission denied" in done.stderr for done in tried), (
+        f"a worker of the guests' nginx reads no account, and opens no socket of the counter  [{[output(done) for done in tried]}]")
+    own = as_worker("portal-counter-nginx", "python3", "-c", door)
+    assert own.returncode == 0, f"which the counter's nginx opens  [{output(own)}]"
+    groups = sh("id", "-nG", "www-data").stdout.split()
+    logs = sh("find /var/log/portal -name 'counter*' -user www-data").stdout.split()
+    assert (groups, logs) == (["www-data"], []), f"www-data is in no group of a part, and no log of the counter is its own  [{groups} {logs}]"
 
 
 def test_nothing_of_a_chain_runs(upgrade: Upgrade) -> None:

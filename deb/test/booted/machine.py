@@ -105,6 +105,15 @@ def says_since(unit: str, count: int, words: str) -> bool:
     return until(lambda: any(words in line for line in journal(unit)[count:]), 5) is not None
 
 
+def as_worker(unit: str, *words: str) -> Done:
+    """Runs a command as the user of this nginx's worker, with the groups that the process has."""
+    worker = sh("pgrep", "-n", "-x", "-P", show(unit, "MainPID"), "nginx").stdout.strip()
+    status = pathlib.Path("/proc", worker, "status").read_text()
+    user, group = (re.findall(rf"(?m)^{key}:\t\d+\t(\d+)", status)[0] for key in ("Uid", "Gid"))
+    groups = ",".join(re.findall("(?m)^Groups:(.*)", status)[0].split())
+    return sh("setpriv", f"--reuid={user}", f"--regid={group}", f"--groups={groups}" if groups else "--clear-groups", *words)
+
+
 def all_run() -> bool:
     """Whether every unit of the venue is active."""
     return all(active(unit) == "active" for unit in UNITS)

@@ -85,6 +85,8 @@ INSTALLED = {       # from the kit, with the words between @ signs filled in
 # guests' page
 ACME = ("/etc/letsencrypt/", "/etc/lego/")      # of certbot, and of lego as the documents call it
 APART, TOGETHER = "etc/portal/counter-nginx/page.conf", "etc/nginx/conf.d/portal-counter.conf"
+# Then the nginx of the guests' page opens the socket of the counter's
+OPEN_TO_BOTH = "etc/systemd/system/portal-counter.socket.d/together.conf"
 
 
 def language_lines() -> str:
@@ -330,6 +332,10 @@ class Maker:
             text = re.sub("@([A-Z_0-9]+)@", lambda word: str(words[word[1]]), (KIT / source).read_text())
             self.write(self.root / (TOGETHER if goal == APART and not self.counter_is_apart else goal), text)
         self.remove(self.root / (TOGETHER if self.counter_is_apart else APART))
+        if self.counter_is_apart:
+            self.remove(self.root / OPEN_TO_BOTH)
+        else:
+            self.write(self.root / OPEN_TO_BOTH, "[Socket]\nSocketGroup=www-data\n")
         away = away_page(field.counter_language, self.owner_contact())
         self.write(self.etc / "counter-nginx/away.html", away)
         for name, text in error_pages(field.house).items():

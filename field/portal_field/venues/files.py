@@ -20,7 +20,7 @@ from portal_field.venues.places import Machine, Places
 
 TOKENS = 0o600
 # As /etc/portal/rules.nft has them: who may connect to a desk
-USERS = ("root", "www-data", "portal-counter", "portal-radius", "portal-metrics")
+USERS = ("root", "portal-counter", "portal-radius", "portal-metrics")
 OFFICE_FILE, OFFICE_MODE = str(office.SETTINGS).lstrip("/"), 0o640
 SOCKET = "/portal-venues-counter/socket"
 SIGN_IN_SOCKET = "/portal-sign-in/socket"

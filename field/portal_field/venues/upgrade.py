@@ -22,6 +22,7 @@ from portal_field.backup.copies import BadCopy, ask_portal, copy_both, fold
 from portal_field.counter import takings
 from portal_field.lib.desk_client import Desk, NoAnswer, Refused, Routes
 from portal_field.lib.local_time import zone_of
+from portal_field.settings import socket_owners
 from portal_field.settings.venue import Field
 from portal_field.venues.ending import answers, backup, patience_of
 from portal_field.venues.files import VenueFiles, make_shared
@@ -198,6 +199,7 @@ class Upgrade:
         for name in sorted(venues.keys() - set(running)):
             self.release(name)
         self.forget()
+        socket_owners.renew(lambda keys, units: self.units.ctl("show", "-p", keys, units), self.root)
         for unit in (CLOCK, COUNTER, NGINX):
             self.units.ctl("try-reload-or-restart", unit)
         for name in running:

@@ -245,7 +245,7 @@ class Lab(Programs):
         """Starts the counters' nginx."""
         (self.made / "run/portal-counter-nginx").mkdir(exist_ok=True)
         for conf in (self.made / "etc/portal/counter-nginx").glob("*.conf"):
-            conf.write_text(conf.read_text().replace("/var/log/portal", str(self.root)).replace("user www-data;", "user root;"))
+            conf.write_text(conf.read_text().replace("/var/log/portal", str(self.root)).replace("user portal-counter-nginx;", "user root;"))
         conf = self.made / "etc/portal/counter-nginx/nginx.conf"
         self.start_program("nginx", ["nginx", "-e", self.root / "nginx-error.log", "-p", self.root, "-c", conf, "-g", "daemon off;"],
                            env={**os.environ, "PATH": os.environ.get("PATH", "") + ":/usr/sbin"})
