@@ -25,7 +25,7 @@ from portal_field.lib import doors, local_time, web
 from portal_field.lib.machine_time import Notes
 from portal_field.lib.zones import rule_of
 from portal_field.server.accepted_steps import Steps
-from portal_field.venues import copies
+from portal_field.venues import copies, users
 from portal_field.venues.apply import Apply
 from portal_field.venues.clock import VenuesClock, Watch, newest_databases, take_word
 from portal_field.venues.command import next_port
@@ -58,6 +58,9 @@ class FakeUnits(Units):
             if "portal-venues-clock.service" in words:
                 self.running |= {f"portal@{name}.service" for name in ("north", "south")}
         return ""
+
+    def make_users(self, root: pathlib.Path) -> None:
+        self.asked.append(("users", users.text_for(root)))
 
     def is_active(self, unit: str) -> bool:
         return unit in self.running
@@ -242,6 +245,23 @@ class Applied(OnAMachine):
         self.assertIn("[1/2] north: FAILED: units: systemctl start portal-settings@north.socket: no\n    done: files, prices; not done: units", words)
         self.assertIn("[2/2] south: ready", words)
         self.assertEqual(self.run_apply(FakeUnits())[0], 0)
+
+    def test_each_venue_has_a_user_of_its_own_before_it_starts(self) -> None:
+        """Which the unit names; also one that was retired, whose database stays."""
+        for name in self.ports:
+            self.put(name)
+        field = Places("south", self.root).field
+        field.rename(field.with_name("field.toml.retired"))
+        units = FakeUnits()
+        self.run_apply(units)
+        made = [words for words in units.asked if words[0] == "users"]
+        self.assertTrue(made, "its user is made")
+        self.assertLess(units.asked.index(made[0]), units.asked.index(("enable", "portal-settings@north.socket", "portal@north.service")))
+        names = re.findall(r'(?m)^u (\S+) - "', made[0][1])
+        self.assertEqual(names, ["portal_north", "portal_south"])
+        user = re.findall("(?m)^User=(.*)", (FIELD / "units/portal@.service").read_text())
+        self.assertEqual([user[0].replace("%i", name) for name in ("north", "south")], names)
+        self.assertLess(len(user[0].replace("%i", 20 * "a")), 32, "the longest name that a user may have")
 
     def test_what_is_as_it_should_be_is_not_started_anew(self) -> None:
         self.put("north")

@@ -114,6 +114,11 @@ def as_worker(unit: str, *words: str) -> Done:
     return sh("setpriv", f"--reuid={user}", f"--regid={group}", f"--groups={groups}" if groups else "--clear-groups", *words)
 
 
+def share_the_counters_door() -> None:
+    """Opens the socket of the counter's page to the guests' nginx too, as earlier versions do."""
+    sh("gpasswd --add www-data portal-counter; chgrp portal-counter /run/portal-counter/socket")
+
+
 def all_run() -> bool:
     """Whether every unit of the venue is active."""
     return all(active(unit) == "active" for unit in UNITS)

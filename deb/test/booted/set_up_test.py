@@ -184,8 +184,8 @@ def test_parts_are_apart(served: None) -> None:
     assert off == "1", "IPv6 is off on the guests' device"
     sockets = {name: pathlib.Path(f"/run/portal-{name}/socket") for name in ("front", "counter")}
     groups = {name: f"{path.owner()}:{path.group()}" for name, path in sockets.items()}
-    assert groups == {name: f"portal-{name}:portal-{name}" for name in sockets}, (
-        "each page's socket belongs to a group of its own")
+    assert groups == {"front": "portal-front:www-data", "counter": "portal-counter:portal-counter-nginx"}, (
+        f"each page's socket belongs to the page and to its nginx  [{groups}]")
     open_it = "import socket; socket.socket(socket.AF_UNIX).connect('/run/portal-counter/socket')"
     done = sh("setpriv", "--reuid=portal-front", "--regid=portal-front", "--groups=portal-gateway", "python3",
               "-c", open_it)

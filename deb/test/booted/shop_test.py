@@ -17,7 +17,7 @@ from booted import Levels
 from machine import (
     AUTHORITY, FIELD, GATEWAY, PARTS, PASSWORD, PATIENCE, PLANS, Done, active, all_run, apt,
     ask_for_a_lease, begin_to_serve, code, counter, edit_settings, install, output, passes,
-    put_certificate, redeem, sh, until, versions, within)
+    put_certificate, redeem, sh, share_the_counters_door, until, versions, within)
 
 pytestmark = pytest.mark.container
 WAITS = 120                 # seconds for the next word of a command on a terminal
@@ -239,10 +239,12 @@ def site_on_every_address(questions: Questions) -> Iterator[int]:
     """The shop's site has port 443 of every address, and the counter's page is in nginx beside it, as earlier
     versions have it; the status of that page."""
     sh("systemctl stop portal-counter-nginx")
+    share_the_counters_door()
     PAGE.rename(OLD_SITE)
     SHOP.write_text(SITE + SITE_BY_TLS)
     sh("systemctl restart nginx")
     yield counter("")[0]
+    sh("gpasswd --delete www-data portal-counter")
     SHOP.write_text(SITE)
     sh("systemctl restart nginx")
 

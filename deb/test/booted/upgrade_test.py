@@ -13,7 +13,8 @@ import steady
 from booted import Levels
 from machine import (
     COPIES, FIELD, GUEST, PATIENCE, Away, Done, Gap, active, all_run, code, counter, inactive_units, install,
-    installed, is_online, leased, look_up, output, passes, sessions, sh, show, tokens, until, versions)
+    installed, is_online, leased, look_up, output, passes, sessions, sh, share_the_counters_door, show, tokens, until,
+    versions)
 
 pytestmark = pytest.mark.container
 OLD_SITE = pathlib.Path("/etc/nginx/conf.d/portal-counter.conf")
@@ -49,6 +50,7 @@ def nginx_at(address: str) -> str:
 def take_page_of_before() -> bool:
     """The counter's page as earlier versions have it: nginx of the guests' page serves it too."""
     sh("systemctl stop portal-counter-nginx")
+    share_the_counters_door()
     OLD_SITE.write_bytes(PAGE.read_bytes())
     shutil.rmtree(PAGE.parent)
     sh("systemctl reload nginx")

@@ -34,7 +34,7 @@ FOLDERS = {
     "portal-radius": Folder("portal-radius", ("radacct.db", "logins.db"), OF_SQLITE),
     # when the last good copy was made
     "portal-backup": Folder("root", (), ("copied",)),
-    # the same of the venues by name
+    # the same of the venues by name; systemd gives the first to its venue's own user at the start
     "portal-venues/%i": Folder("portal", (DATABASE,), (*OF_SQLITE, "book.db.before-*", ".restore-*")),
     "portal-venues-counter": Folder(
         "portal-counter", ("%i/journal.db", "%i/accepted-plans.toml", "%i/plans.json"),

@@ -55,8 +55,9 @@ class Apply:
         self.prices_as_shipped = prices_as_shipped
 
     def files(self, places: Places, settings: Field, result: Result) -> None:
-        """Makes the files of a venue."""
+        """Makes the files of a venue, and its user. UnitFault: it is not made."""
         result.written += VenueFiles(settings, places, self.kit).make()
+        self.units.make_users(self.root)
 
     def prices(self, places: Places) -> None:
         """Lets no sample of prices be loaded that nobody chose, since a loaded plan never changes. BadVenue:

@@ -2,7 +2,10 @@
 
 from __future__ import annotations
 
+import pathlib
 import subprocess
+
+from portal_field.venues import users
 
 CLOCK, COUNTER = "portal-venues-clock.service", "portal-venues-counter.service"
 DOOR = "portal-venues-counter.socket"
@@ -31,6 +34,13 @@ class Units:
         if done.returncode != 0:
             raise UnitFault(f"systemctl {' '.join(words)}: {done.stderr.strip() or done.returncode}")
         return done.stdout
+
+    def make_users(self, root: pathlib.Path) -> None:
+        """Makes the users of the venues that have settings below a root. UnitFault: they are not made."""
+        try:
+            users.make(root)
+        except (OSError, subprocess.SubprocessError) as fault:
+            raise UnitFault(f"systemd-sysusers: {getattr(fault, 'stderr', '') or fault}") from fault
 
     def is_active(self, unit: str) -> bool:
         """Whether a unit runs."""
