@@ -16,7 +16,7 @@ from tree import DEB, TOP, Done, output, run
 pytestmark = pytest.mark.package
 LIMIT = 120     # seconds for a script, whose files go to the disk
 # What the scripts ask of the machine; of a copy is kept what it is made from.
-COMMANDS = {"systemd-sysusers": "", "systemd-tmpfiles": "", "deb-systemd-invoke": "", "chown": "",
+COMMANDS = {"systemd-sysusers": "", "gpasswd": "", "systemd-tmpfiles": "", "deb-systemd-invoke": "", "chown": "",
             "portal-backup": 'timeout 5 head -c 9M "$4" >"$5/$3.db"'}
 
 

@@ -643,8 +643,8 @@ class Made(unittest.TestCase):
         self.assertEqual((service["DynamicUser"], service["PrivateNetwork"], service["CapabilityBoundingSet"],
                           service["RestrictAddressFamilies"], service.get("LoadCredential")), ("yes", "yes", "", "none", None))
         self.assertEqual(self.module_of(service), FIELD / "portal_field/paper/pdf.py")
-        self.assertEqual((door["Socket"]["SocketGroup"], door["Socket"]["SocketMode"], door["Socket"]["Accept"]),
-                         ("portal-counter", "0660", "yes"))
+        self.assertEqual((door["Socket"]["SocketUser"], door["Socket"]["SocketMode"], door["Socket"]["Accept"]),
+                         ("portal-counter", "0600", "yes"))
         self.assertEqual(door["Unit"]["ConditionPathExists"], "/usr/bin/weasyprint")
         self.assertIn("\nWants=portal-paper.socket\n", (self.root / "etc/systemd/system/portal-counter.service").read_text())
         conf = tomllib.loads((self.root / "etc/portal/counter.toml").read_text())

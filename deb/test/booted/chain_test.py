@@ -89,7 +89,7 @@ def test_page_of_the_office(chain: None) -> None:
 
 def test_who_may_ask(chain: None) -> None:
     for user in ("www-data", "portal-front", "nobody"):
-        line = f"setpriv --reuid={user} --clear-groups python3 -c \"import socket; socket.socket(1).connect('/run/portal-office/socket')\""
+        line = f"setpriv --reuid={user} --regid=$(id -g {user}) --init-groups python3 -c \"import socket; socket.socket(1).connect('/run/portal-office/socket')\""
         assert "PermissionError" in sh(line).stderr, f"the counters' pages alone open the socket of the office: {user} does not"
 
 
