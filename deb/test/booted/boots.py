@@ -22,7 +22,7 @@ BOOTS = {
               ("reboot_test.py", "upgrade_test.py", "migration_test.py", "removal_test.py", "by_hand_test.py")),
     "faults": (("before_clock_test.py",), ("wrong_clock_test.py", "healing_test.py", "before_reset_test.py"),
                ("reset_test.py",)),
-    "beside": (("quick_way_test.py", "first_release_test.py", "venues_test.py", "chain_test.py", "many_vouchers_test.py", "shop_test.py"),),
+    "beside": (("quick_way_test.py", "first_release_test.py", "venues_test.py", "chain_test.py", "parts_test.py", "many_vouchers_test.py", "shop_test.py"),),
     "again": (("before_loss_test.py",), ("new_machine_test.py",))}     # between them the machine is lost
 RESET = "before_reset_test.py"      # after it the machine is reset, and not shut down
 
