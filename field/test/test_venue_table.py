@@ -37,6 +37,7 @@ class Table(OwnPostgres):
     def test_what_is_added_is_exported_as_it_was(self) -> None:
         table.add(self.machine, "north", TEXT.format("north", 20001))
         self.assertEqual(table.export(self.machine, self.root), ["north"])
+        self.assertEqual(self.field("north").stat().st_mode & 0o777, 0o640, "it may have the password of the Wi-Fi")
         self.assertEqual(tomllib.loads(self.field("north").read_text()), tomllib.loads(TEXT.format("north", 20001)))
         self.assertEqual(read_venue(self.field("north").read_text()).payments, ["cash", "card"])
         self.assertEqual(table.differences(self.machine, self.root), [])

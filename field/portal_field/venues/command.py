@@ -40,7 +40,7 @@ from portal_field.venues.places import (
 from portal_field.venues.units import UnitFault, Units
 from portal_field.venues.upgrade import Upgrade
 from portal_field.venues.venue_settings import all_venues, read_venue
-from portal_field.venues.files import Files
+from portal_field.venues.files import SECRET, Files
 
 ROOT = pathlib.Path("/")
 
@@ -90,7 +90,7 @@ def add(args: argparse.Namespace, machine: Machine) -> int:
     writer = Files(None, ROOT, "")      # type: ignore[arg-type]
     if args.plans:
         writer.write(places.settings / "plans.toml", args.plans.read_text(encoding="utf-8"))
-    writer.write(places.field, text)
+    writer.write(places.field, text, SECRET)
     before.unlink(missing_ok=True)
     print(f"{name}: settings: {places.field}", flush=True)
     return apply(args, machine, [name])

@@ -19,6 +19,7 @@ from portal_field.venues import office, sign_in
 from portal_field.venues.places import Machine, Places
 
 TOKENS = 0o600
+SECRET = 0o640          # field.toml of a venue: it may have the password of the Wi-Fi
 # As /etc/portal/rules.nft has them: who may connect to a desk
 USERS = ("root", "portal-counter", "portal-radius", "portal-metrics")
 OFFICE_FILE, OFFICE_MODE = str(office.SETTINGS).lstrip("/"), 0o640

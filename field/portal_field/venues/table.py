@@ -11,7 +11,7 @@ from collections.abc import Iterator
 from typing import Any
 
 from portal_field import KIT
-from portal_field.venues.files import Files
+from portal_field.venues.files import SECRET, Files
 from portal_field.venues.places import BadVenue, Machine, Places, venues_in
 from portal_field.venues.venue_settings import read_venue
 
@@ -112,7 +112,7 @@ def export(machine: Machine, root: pathlib.Path) -> list[str]:
         except BadVenue as fault:
             print(f"{name}: the table's settings are not taken: {fault}", flush=True)
             continue
-        writer.write(path, text)
+        writer.write(path, text, SECRET)
         changed.append(name)
         print(f"{name}: settings of the table are new", flush=True)
     return changed
