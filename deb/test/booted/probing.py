@@ -138,8 +138,8 @@ def server_at(port: str) -> str:
 def of_everybody(found: Found) -> dict[str, list[str]]:
     """Where what a user can use who is no part's differs from the table."""
     row = TABLE["everybody"]
-    reads = (path for path in found["reads"] if PLACES.match(path) and not is_any(path, BY_TEST))
-    faults = {"reads": differs(reads, row["reads"]), "writes": differs(found["writes"], row["writes"]),
+    reads = [f"+{path}" for path in found["reads"] if PLACES.match(path) and not is_any(path, (*row["reads"], *BY_TEST))]
+    faults = {"reads": reads, "writes": differs(found["writes"], row["writes"]),
               "connects": differs([*found["connects"], *(port for port in map(server_at, found["reaches"]) if "server" in port)], row["connects"]),
               "signals": found["signals"] + found["reads_memory"]}
     return {key: lines for key, lines in faults.items() if lines}
