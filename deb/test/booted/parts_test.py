@@ -38,7 +38,7 @@ def parts(request: pytest.FixtureRequest) -> Iterator[None]:
         path.touch(mode)
         shutil.chown(path, group=group)
         path.chmod(mode)
-    sh("systemctl", "start", "portal-backup", *SOCKETS)
+    sh("systemctl", "start", "portal-backup", "portal-restarts", *SOCKETS)
     until(pathlib.Path("/run/portal-venues/venues.prom").exists, 30)
     until(SESSIONS.exists, 10)
     yield
