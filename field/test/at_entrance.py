@@ -14,6 +14,7 @@ import urllib.parse
 from collections.abc import Callable, Mapping
 from dataclasses import dataclass, field
 
+from portal_field.counter import known_browsers
 from portal_field.counter.logins import IDLE_MINUTES, AccountsFile, Logins
 from portal_field.lib import passwords
 from portal_field.settings.accounts import CLERK, FILE, MANAGER, Account, Accounts
@@ -89,17 +90,19 @@ class Answer:
 
 @dataclass
 class ClerksBrowser:
-    """One browser at the counter, with its cookie."""
+    """One browser at the counter, with the cookie of its log-in, and the one that says who was logged in before."""
     link: Link
     place: str = "10.88.0.2"
     host: str = "counter.example"
     cookie: str = ""
     token: str = ""
+    known: str = ""
     cookies: list[str] = field(default_factory=list)    # the lines that set them
 
     def send(self, path: str, form: Mapping[str, str] | None = None, /, **head: str) -> Answer:
         """A request; with a form it is a POST."""
-        fields = {"Host": self.host, "X-Real-IP": self.place, **({"Cookie": self.cookie} if self.cookie else {}),
+        sent = "; ".join(filter(None, (self.cookie, self.known)))
+        fields = {"Host": self.host, "X-Real-IP": self.place, **({"Cookie": sent} if sent else {}),
                   **({"Origin": f"https://{self.host}"} if form is not None else {}), **head}
         with contextlib.closing(self.link()) as link:
             link.request("GET" if form is None else "POST", path, None if form is None else urllib.parse.urlencode(form), fields)
@@ -107,7 +110,11 @@ class ClerksBrowser:
             answer = Answer(got.status, got.read().decode("utf-8", "replace"), got.headers)
         for line in got.headers.get_all("Set-Cookie") or []:
             self.cookies.append(line)
-            self.cookie = line.partition(";")[0] if "Max-Age=0" not in line else ""
+            value = line.partition(";")[0] if "Max-Age=0" not in line else ""
+            if line.startswith(f"{known_browsers.COOKIE}="):
+                self.known = value
+            else:
+                self.cookie = value
         found = re.search(r'name="token" value="([0-9a-f]+)"', answer.text)
         self.token = found[1] if found else self.token
         return answer

@@ -21,6 +21,7 @@ from test_counter import AtCounter
 from test_front import UnixLink, serve_during_test
 
 from portal_field.counter import roles
+from portal_field.counter.guesses import Asker
 from portal_field.counter.page import pages
 from portal_field.lib import web
 from portal_field.settings.accounts import FILE, Account, Accounts
@@ -38,7 +39,9 @@ class AtEntrance(AtCounter):
         put_accounts(self.folder)
         self.clock = [1_790_000_000.0]
         self.logins = logins_in(self.folder, idle_minutes=self.MINUTES)
-        self.logins.now = self.logins.tries.now = lambda: self.clock[0]
+        self.logins.now = self.logins.guesses.tries.now = lambda: self.clock[0]
+        self.slept: list[float] = []
+        self.logins.guesses.sleep = self.slept.append
         self.door = self.folder / "entrance"
         self.app = pages(self.counter, self.logins)
         serve_during_test(self, self.app, web.listening(str(self.door)))
@@ -91,7 +94,7 @@ class LogIn(AtEntrance):
 
     def test_the_cookie_is_for_this_site_alone_and_the_file_has_its_hash(self) -> None:
         browser = self.browser("anna")
-        line, = browser.cookies
+        line = browser.cookies[0]
         self.assertEqual(set(line.split("; ")[1:]), {"Secure", "HttpOnly", "SameSite=Strict", "Path=/"})
         name, _, number = browser.cookie.partition("=")
         self.assertEqual((name, len(number)), ("__Host-counter", 64))
@@ -131,26 +134,113 @@ class LogIn(AtEntrance):
         return browser
 
     def test_wrong_words_are_limited_by_name_and_by_address(self) -> None:
-        mine, other = self.browser(place="10.88.0.2"), self.browser(place="10.88.0.3")
+        mine = self.browser(place="10.88.0.2")
         result = [mine.log_in("anna", f"wrong-{i}").status for i in range(7)]
         self.assertEqual(result, [401] * 5 + [429] * 2)
-        self.assertEqual(mine.log_in("ben").status, 429, "by address: no name is tried from there")
-        self.assertEqual(other.log_in("anna").status, 429, "by name: from no address")
-        self.assertEqual(other.log_in("ben").status, 303)
         answer = mine.log_in("anna")
         self.assertIn("Try again in 30 seconds.", answer.told)
         self.assertEqual(answer.head["Retry-After"], "30")
         self.assertIn("counter: anna at 10.88.0.2: login: too many wrong ones, waits 30 seconds", self.log.getvalue())
+        self.assertEqual(self.browser(place="10.88.0.3").log_in("anna").status, 303, "from another address she comes in")
+        self.assertEqual(self.browser(place="10.88.0.2").log_in("ben").status, 303, "and so does another clerk from there")
         self.clock[0] += 31
         self.assertEqual(mine.log_in("anna").status, 303)
         self.assertEqual(self.rows("login").count(("anna", "login", "wrong_word")), 5)
+
+    def test_one_address_does_not_try_all_names(self) -> None:
+        result = [self.browser(place="10.88.0.66").log_in(f"name-{i % 10}", "wrong").status for i in range(21)]
+        self.assertEqual(result, [401] * 20 + [429])
+        self.assertEqual(self.browser(place="10.88.0.66").log_in("ben").status, 429, "none is tried from there")
+        self.assertEqual(self.browser(place="10.88.0.3").log_in("ben").status, 303)
+
+    def wrong_words(self, name: str, count: int, place: str = "10.88.1.{}") -> None:
+        """So many wrong words of a name, by default each from another address."""
+        for i in range(count):
+            self.browser(place=place.format(i)).log_in(name, "a-wrong-word")
+
+    def test_a_name_alone_delays_and_refuses_nobody(self) -> None:
+        self.wrong_words("anna", 10)
+        self.assertEqual(self.slept, [1, 2, 4, 8, 10])
+        self.wrong_words("anna", 40, "10.88.2.{}")
+        self.assertEqual(self.browser(place="10.88.0.3").log_in("anna").status, 303)
+        self.assertEqual(self.slept[5:], [10] * 41, "ten seconds at most, and the right word waits as a wrong one does")
+        self.wrong_words("nobody", 6)
+        self.assertEqual(self.slept[46:], [1], "whether there is such a name is not to be seen")
+        self.clock[0] += 3600
+        self.browser(place="10.88.0.4").log_in("anna")
+        self.assertEqual(len(self.slept), 47, "it is forgotten")
+
+    def test_who_waits_leaves_room_for_others(self) -> None:
+        """Words that wait take half of the page's threads at most; the next one does not wait."""
+        self.wrong_words("anna", 6)
+        waiting, goes_on = threading.Semaphore(0), threading.Event()
+        self.addCleanup(goes_on.set)
+
+        def sleep(seconds: float) -> None:
+            waiting.release()
+            goes_on.wait(60)
+
+        self.logins.guesses.sleep = sleep
+        jobs = [threading.Thread(target=self.logins.account, args=(Asker("anna", f"10.88.3.{i}"), "wrong")) for i in range(4)]
+        for job in jobs:
+            job.start()
+            self.assertTrue(waiting.acquire(timeout=30))
+        last = threading.Thread(target=self.logins.account, args=(Asker("anna", "10.88.0.3"), WORDS["anna"]))
+        last.start()
+        last.join(30)
+        self.assertFalse(last.is_alive(), "a fifth one does not wait")
+        goes_on.set()
+        for job in jobs:
+            job.join()
+
+    def test_a_browser_that_was_logged_in_before_has_a_count_of_its_own(self) -> None:
+        browser = self.browser("anna")
+        number, mark = browser.known.partition("=")[2].split(".")
+        self.assertEqual(set(browser.cookies[1].split("; ")[1:]) - {"Max-Age=34560000"} - {line for line in browser.cookies[1].split("; ") if "Expires" in line},
+                         {"Secure", "HttpOnly", "SameSite=Strict", "Path=/"})
+        browser.post("/logout")
+        self.wrong_words("anna", 10)
+        self.wrong_words("anna", 6, "10.88.0.2")
+        for place in ("10.88.0.2", "10.88.0.77"):
+            browser.place = place
+            slept = len(self.slept)
+            self.assertEqual((browser.log_in("anna").status, len(self.slept)), (303, slept), "others' tries neither refuse nor delay")
+            browser.post("/logout")
+        self.assertTrue(browser.known.partition("=")[2].startswith(number), "it keeps its number")
+        forged = self.browser()
+        for known in (f"{number}.{'0' * 32}", f"{'0' * 32}.{mark}", number, mark, "", "."):
+            forged.known = f"__Host-browser={known}"
+            self.assertEqual(forged.log_in("anna").status, 429, known)
+        result = [browser.log_in("anna", f"wrong-{i}").status for i in range(6)]
+        self.assertEqual(result, [401] * 5 + [429], "its own wrong words count")
+        self.assertEqual(self.browser(place="10.88.0.3").log_in("anna").status, 303, "there alone")
+
+    def test_a_log_in_of_ones_own_gives_no_more_tries_of_others(self) -> None:
+        browser = self.browser()
+        result = []
+        for i in range(4):
+            browser.log_in("ben")
+            browser.post("/logout")
+            result += [browser.log_in("anna", f"wrong-{i}-{j}").status for j in range(2)]
+        self.assertEqual(result, [401] * 5 + [429] * 3)
+
+    def test_a_browser_is_known_after_a_restart(self) -> None:
+        browser = self.browser("anna")
+        cookie = browser.known.partition("=")[2]
+        number = cookie.partition(".")[0]
+        self.assertEqual(logins_in(self.folder).browsers.number(cookie, "anna"), number)
+        self.assertEqual(logins_in(self.folder).browsers.number(cookie, "ben"), "")
+        for i in range(20):
+            cookie = self.logins.browsers.cookie(cookie, f"name-{i}")
+        self.assertEqual((len(cookie.split(".")), cookie.partition(".")[0]), (17, number), "of sixteen names, the last ones")
+        self.assertEqual([self.logins.browsers.number(cookie, name) != "" for name in ("name-19", "name-4", "name-3")], [True, True, False])
 
     def test_words_are_tried_one_at_a_time(self) -> None:
         """So that many at once are no way around the limit."""
         seen: list[bool] = []
 
         def fits(word: str, hashed: str) -> bool:
-            seen.append(self.logins.turn.locked())
+            seen.append(self.logins.guesses.turn.locked())
             return False
 
         with mock.patch("portal_field.lib.passwords.fits", fits):
@@ -313,6 +403,27 @@ class Lock(AtEntrance):
         self.assertEqual(browser.post("/unlock", pin="2468").status, 403)
         self.assertEqual(browser.ask("/").place, "/login", "the PIN does not help any more")
         self.assertEqual(browser.log_in("ben").status, 429)
+
+    def test_what_others_try_ends_no_log_in_and_hinders_no_unlock(self) -> None:
+        browser = self.browser("ben")
+        browser.known = ""      # as one that logged in with a version before
+        browser.post("/lock")
+        for place in ("10.88.0.2", "10.88.0.66", "10.88.0.67"):
+            for i in range(25):
+                self.browser(place=place).log_in("ben", f"wrong-{i}")
+        self.assertEqual(self.browser(place="10.88.0.66").log_in("ben").status, 429)
+        slept = len(self.slept)
+        self.assertEqual((browser.post("/unlock", pin="1111").status, browser.post("/unlock", pin="2468").status), (401, 303))
+        self.assertEqual(browser.ask("/").status, 200)
+        self.assertEqual(len(self.slept), slept, "nor do they delay it")
+
+    def test_a_lock_at_a_press_gives_no_more_tries(self) -> None:
+        browser = self.browser("ben")
+        result = []
+        for i in range(5):
+            browser.post("/lock")
+            result.append(browser.post("/unlock", pin=f"{i}{i}{i}{i}").status)
+        self.assertEqual(result, [401] * 4 + [429])
 
     def test_a_page_that_nobody_looks_after_locks_itself(self) -> None:
         browser = self.browser("ben")

@@ -133,7 +133,7 @@ class CounterPage(BehindNginx):
                    (403, self.clerk("/sell", http_form, **sale)), (404, self.clerk("/nothing")), (404, self.clerk("/wrong")),
                    (409, self.clerk("/sell", **sale)), (413, self.clerk("/sell", code="2" * 5000)),
                    *((401, self.guess(WRONG)) for _ in range(5)), (429, self.guess(WRONG))]
-        self.logins.tries.wrong.clear()
+        self.logins.guesses.tries.wrong.clear()
         self.relay.drops = True
         answers.append((504, self.clerk("/sell", **sale)))
         self.stops()
@@ -169,7 +169,7 @@ class CounterPage(BehindNginx):
             self.guess(WRONG)
             self.ask("/sell", {"Origin": f"https://{self.host}"}, urllib.parse.urlencode({"code": code}))
             self.browser().log_in(code, code)       # a scan into the fields of the log-in
-            self.logins.tries.wrong.clear()
+            self.logins.guesses.tries.wrong.clear()
             self.clerk("/sell", {"Origin": "https://evil.example"}, code=code, request="e1")
         self.clerk("/issue", batch=codes[0].lower(), plan="hour", count="6", request="i2")
         return codes

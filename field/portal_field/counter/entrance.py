@@ -14,10 +14,11 @@ from typing import TYPE_CHECKING
 
 import flask
 
-from portal_field.counter import roles
+from portal_field.counter import known_browsers, roles
 from portal_field.counter.clerk import Notice
 from portal_field.counter.journal import DONE, Act
-from portal_field.counter.logins import COOKIE, Locked, Login, Logins
+from portal_field.counter.guesses import Asker, Locked
+from portal_field.counter.logins import COOKIE, Login, Logins
 from portal_field.counter.origin import is_from_our_page
 from portal_field.lib.desk_client import REQUEST_NUMBER, new_number
 from portal_field.lib.forms import BadForm, Form
@@ -142,10 +143,14 @@ class Entrance:
         return flask.make_response(flask.redirect(f"/{name}{query}", 303))
 
     def leave(self, response: Reply) -> Reply:
-        """Says to nginx's log who it was, and has a page that nobody looks after lock itself."""
+        """Sets cookies, says to nginx's log who it was, and has a page that nobody looks after lock itself."""
         login = flask.g.get("login")
         if login and login.number != flask.request.cookies.get(COOKIE, ""):
             response.set_cookie(COOKIE, login.number, secure=True, httponly=True, samesite="Strict", path="/")
+        if name := flask.g.get("came_in", ""):
+            known = self.logins.browsers.cookie(flask.request.cookies.get(known_browsers.COOKIE, ""), name)
+            response.set_cookie(known_browsers.COOKIE, known, max_age=known_browsers.LASTS, secure=True,
+                                httponly=True, samesite="Strict", path="/")
         if login and not login.is_locked:
             response.headers["X-Clerk"] = urllib.parse.quote(login.name)
             if self.logins.idle_minutes and response.mimetype == "text/html":
@@ -178,6 +183,17 @@ class Entrance:
         """The line that names the managers."""
         names = ", ".join(self.logins.accounts.now.managers)
         return [self.say("Managers: %(names)s.", names=names)] if names else []
+
+    # Who types a password or PIN
+
+    def asker(self, name: str, login: str = "") -> Asker:
+        """Who types a word of this name in this request."""
+        cookie = flask.request.cookies.get(known_browsers.COOKIE, "")
+        return Asker(name, place(), self.logins.browsers.number(cookie, name), login)
+
+    def asker_within(self, login: Login) -> Asker:
+        """Who types a word of the own name in a log-in."""
+        return self.asker(login.name, login.token)
 
     # Forms that came without a log-in, or by another one
 
@@ -249,7 +265,7 @@ class Entrance:
         if not REQUEST_NUMBER.fullmatch(number):
             return self.login_page(400, (self.say("The request was not understood."),))
         try:
-            account = self.logins.account(form.get("name", ""), place(), word)
+            account = self.logins.account(self.asker(form.get("name", "")), word)
         except Locked as fault:
             return self.too_many(fault, form, "login")
         if account is None:
@@ -260,6 +276,7 @@ class Entrance:
         cookie = self.logins.begin(account, place(), number)
         self.let_in(self.logins.of_cookie(cookie))
         self.record(account.name, "login", DONE)
+        flask.g.came_in = account.name
         return self.comes_in(form)
 
     def log_out(self) -> Reply:
@@ -304,10 +321,10 @@ class Entrance:
         if not login.is_locked:
             return self.comes_in(form)
         try:
-            is_right = self.logins.unlock(login, place(), secret("pin"))
+            is_right = self.logins.unlock(login, self.asker_within(login), secret("pin"))
             if not is_right:
                 self.record(login.name, "unlock", WRONG)
-                self.logins.check_wait(login.name, place())
+                self.logins.guesses.check_wait(self.asker_within(login))
         except Locked as fault:
             self.logins.end(login.cookie)
             flask.g.login = None

@@ -8,6 +8,7 @@ in.
 from __future__ import annotations
 
 import contextlib
+import functools
 import hashlib
 import pathlib
 import secrets
@@ -18,7 +19,8 @@ import time
 from collections.abc import Callable, Iterator
 from dataclasses import dataclass
 
-from portal_field.lib.tries import Tries
+from portal_field.counter.guesses import Asker, Guesses
+from portal_field.counter.known_browsers import KnownBrowsers
 from portal_field.lib import passwords
 from portal_field.settings.accounts import FILE, Account, Accounts, BadAccounts, text_in
 
@@ -43,6 +45,10 @@ CREATE TABLE IF NOT EXISTS logins (
     locked INTEGER                  -- since when; NULL: it is not
 ) STRICT
 """
+# Of the cookies of browsers in which somebody was logged in before
+KEY_SCHEMA = """
+CREATE TABLE IF NOT EXISTS browser_key (one INTEGER PRIMARY KEY CHECK (one = 1), key TEXT NOT NULL) STRICT
+"""
 
 OF_COOKIE = "SELECT name, role, token, account, begun, ends, used, locked FROM logins WHERE cookie = ?"
 
@@ -58,14 +64,6 @@ class Login:
     token: str
     is_locked: bool
     is_signed_in: bool = False      # by the chain's sign-in: it has no account, password or PIN here
-
-
-class Locked(Exception):
-    """Too many wrong passwords or PINs: for how many seconds none is good."""
-
-    def __init__(self, seconds: float) -> None:
-        super().__init__(seconds)
-        self.seconds = seconds
 
 
 class AccountsFile:
@@ -118,7 +116,7 @@ class Logins:
                  now: Callable[[], float] = time.time, sign_in: str = "") -> None:
         self.sign_in = SIGNED_IN + sign_in if sign_in else ""
         self.path, self.accounts, self.idle_minutes, self.now = path, accounts, idle_minutes, now
-        self.tries, self.turn = Tries(), threading.Lock()
+        self.guesses = Guesses()
 
     @contextlib.contextmanager
     def opened(self) -> Iterator[sqlite3.Connection]:
@@ -132,32 +130,21 @@ class Logins:
 
     # Passwords and PINs
 
-    def check_wait(self, name: str, place: str) -> None:
-        """Locked: of this name, or from this address, too many words were wrong."""
-        if seconds := max(self.tries.wait(f"from {place}"), self.tries.wait(f"of {name}")):
-            raise Locked(seconds)
+    @functools.cached_property
+    def browsers(self) -> KnownBrowsers:
+        """The browsers in which somebody was logged in before, by a key that the file draws once."""
+        with self.opened() as link:
+            link.execute(KEY_SCHEMA)
+            link.execute("INSERT OR IGNORE INTO browser_key VALUES (1, ?)", (secrets.token_hex(32),))
+            key, = link.execute("SELECT key FROM browser_key").fetchone()
+        return KnownBrowsers(bytes.fromhex(key))
 
-    def is_right(self, name: str, place: str, word: str, *hashes: str) -> bool:
-        """Whether a word is one of these; a wrong one is counted, by name and address. One is tried at a
-        time. Locked: none is tried now."""
-        with self.turn:
-            self.check_wait(name, place)
-            if any([passwords.fits(word, each) for each in hashes]):
-                return True
-            self.count_wrong(name, place)
-            return False
-
-    def count_wrong(self, name: str, place: str) -> None:
-        """Counts a wrong word, by name and address."""
-        self.tries.add(f"from {place}")
-        self.tries.add(f"of {name}")
-
-    def account(self, name: str, place: str, word: str) -> Account | None:
+    def account(self, asker: Asker, word: str) -> Account | None:
         """The account of a name and a password; None where one of them is wrong. Locked: none is tried
         now."""
-        account = self.accounts.now.get(name)
+        account = self.accounts.now.get(asker.name)
         known = account.password if account else passwords.of_nobody()
-        return account if self.is_right(name, place, word, known) else None
+        return account if self.guesses.is_right(asker, word, known) else None
 
     # Log-ins
 
@@ -217,10 +204,10 @@ class Logins:
                          (hashed(number), int(self.now()), cookie))
         return number
 
-    def unlock(self, login: Login, place: str, word: str) -> bool:
+    def unlock(self, login: Login, asker: Asker, word: str) -> bool:
         """Takes the lock off by PIN or password; False where that is wrong. Locked: none is tried now."""
         account = self.accounts.now.get(login.name)
-        if account is None or not self.is_right(login.name, place, word, account.pin, account.password):
+        if account is None or not self.guesses.is_right(asker, word, account.pin, account.password):
             return False
         with self.opened() as link:
             link.execute("UPDATE logins SET locked = NULL, used = ? WHERE cookie = ?",

@@ -11,9 +11,10 @@ import flask
 
 from portal_field.counter import settings_client
 from portal_field.counter.clerk import Notice
-from portal_field.counter.entrance import WRONG, Entrance, place, secret
+from portal_field.counter.entrance import WRONG, Entrance, secret
+from portal_field.counter.guesses import Locked
 from portal_field.counter.journal import DONE
-from portal_field.counter.logins import Locked, Login
+from portal_field.counter.logins import Login
 from portal_field.counter.setting_files import Answer
 from portal_field.lib import passwords
 from portal_field.lib.message_marks import clerk_words
@@ -84,7 +85,7 @@ class OwnAccount:
         """Has the accounts written anew, with the password of who is logged in, typed into a field."""
         login: Login = flask.g.login
         try:
-            self.logins.check_wait(login.name, place())
+            self.logins.guesses.check_wait(self.entrance.asker_within(login))
         except Locked as fault:
             return self.wait(fault.seconds)
         written = self.written(login.name, word, changed)
@@ -96,7 +97,7 @@ class OwnAccount:
             return self.wait(written.seconds)
         is_wrong = written.word == "wrong_password"
         if is_wrong:
-            self.logins.count_wrong(login.name, place())
+            self.logins.guesses.count_wrong(self.entrance.asker_within(login))
         self.entrance.record(login.name, act, WRONG if is_wrong else written.word)
         text, status = REFUSALS.get(written.word, OTHER)
         return Answer(status, (self.say(text, why=written.why or written.word),), field if is_wrong else "")

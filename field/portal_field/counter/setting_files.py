@@ -13,8 +13,8 @@ import flask
 
 from portal_field.counter import settings_client
 from portal_field.counter.entrance import WRONG, Entrance, place
+from portal_field.counter.guesses import Locked
 from portal_field.counter.journal import DONE
-from portal_field.counter.logins import Locked
 from portal_field.lib.desk_client import new_number
 from portal_field.lib.message_marks import clerk_words
 from portal_field.settings.kinds import KINDS
@@ -76,9 +76,10 @@ class SettingFiles:
 
     def write(self, kind: str, before: str, after: str, password: str, what: str) -> Answer:
         """Has a file written that was made from the text before. `what`: for the journal."""
-        login, logins = flask.g.login, self.entrance.logins
+        login, guesses = flask.g.login, self.entrance.logins.guesses
+        asker = self.entrance.asker_within(login)
         try:
-            logins.check_wait(login.name, place())
+            guesses.check_wait(asker)
         except Locked as fault:
             return self.wait(fault.seconds)
         path = self.page.counter.conf.get("settings_socket", settings_client.SOCKET)
@@ -90,7 +91,7 @@ class SettingFiles:
             return Answer(200, ())
         is_wrong = written.word == "wrong_password"
         if is_wrong:
-            logins.count_wrong(login.name, place())
+            guesses.count_wrong(asker)
         self.record(kind, WRONG if is_wrong else written.word, "")
         text, status = REFUSALS.get(written.word, OTHER)
         lines = (self.say(text, why=written.why or written.word),)
