@@ -27,7 +27,7 @@ from portal_field.counter.sheet import Sheet, sheet_of, words_of
 from portal_field.counter.shifts import Shifts
 from portal_field.guests import gifts, left
 from portal_field.lib.desk_client import Route, new_number
-from portal_field.lib.error_pages import away_page
+from portal_field.lib.error_pages import counter_pages
 from portal_field.lib.language_names import COUNTER as LANGUAGES_OF_CLERKS
 from portal_field.lib.languages import Language
 from portal_field.settings.venue import LANGUAGES
@@ -403,8 +403,8 @@ class Shown(unittest.TestCase):
             return [(FIELD / "guests/style.css").read_bytes() if is_style else shown]
 
         address = self.venue.serve(answer, "counter/nginx-counter.conf")
-        for tag in LANGUAGES_OF_CLERKS:
-            shown = away_page(tag, "Maria, 030 1234567").encode()
+        for tag, text in ((tag, text) for tag in LANGUAGES_OF_CLERKS for text in counter_pages(tag, "Maria, 030 1234567").values()):
+            shown = text.encode()
             self.browser.open(address)
             found = self.look(True)
             self.assertEqual((found.contrast, found.structure, found.hidden), ({LIGHT: [], DARK: []}, [], []), tag)

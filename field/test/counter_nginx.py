@@ -14,7 +14,7 @@ import time
 from desk_process import FIELD, free_port
 
 from portal_field.lib import web
-from portal_field.lib.error_pages import away_page
+from portal_field.lib.error_pages import counter_pages
 
 NGINX = shutil.which("nginx", path=os.environ.get("PATH", "") + ":/usr/sbin:/sbin")
 CAN = NGINX and shutil.which("openssl")
@@ -78,7 +78,8 @@ class CounterNginx(Nginx):
                  "FIELD": FIELD, "POLICY": policy, "RUN": folder, "ETC": folder}
         (folder / "portal-counter-nginx").mkdir()
         (folder / "counter-nginx").mkdir()
-        (folder / "counter-nginx/away.html").write_text(away_page("en", "Maria, 030 1234567"))
+        for name, page in counter_pages("en", "Maria, 030 1234567").items():
+            (folder / "counter-nginx" / name).write_text(page)
         for source, goal in (("nginx-main.conf", "nginx.conf"), ("nginx-counter.conf", "page.conf")):
             text = re.sub("@([A-Z_]+)@", lambda word: str(words[word[1]]), (FIELD / "counter" / source).read_text())
             text = text.replace("127.0.0.1:443", f"127.0.0.1:{self.port}").replace("/var/log/portal", str(folder))

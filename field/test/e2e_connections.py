@@ -17,6 +17,7 @@ QUICK = ("--max-time", "3")
 MANY, LOOKS = 3300, 20      # half requests, and looks of others meanwhile
 EACH, TOGETHER = 48, 64     # connections of a leased address, and of all others together
 BY_HAND, STRANGERS = "10.77.0.9", [f"10.77.0.{number}" for number in range(10, 30)]
+BESIDE = [f"10.88.0.{number}" for number in range(66, 96)]      # on the counter's network
 WORDS = "no address from this network"
 
 
@@ -117,6 +118,22 @@ def test_attacked(lab: Lab) -> None:
             f"while a guest keeps trying to hold {MANY} {what}, another guest's looks are answered  [{seen[0]}"
             f" of {LOOKS}]")
         assert seen[1] == LOOKS, f"and the counter's ({what})  [{seen[1]} of {LOOKS}]"
+
+
+def test_beside_the_counter(lab: Lab) -> None:
+    """Computers of the counter's network hold half requests, first one of them and then many."""
+    lab.as_clerk()
+    for address in BESIDE:
+        lab.within("clerk", "ip", "addr", "replace", f"{address}/24", "dev", "eth0")
+    for what, many, addresses in (("one computer", MANY, BESIDE[:1]), ("all of them", EACH * len(BESIDE), BESIDE)):
+        held = Held(lab, "clerk", COUNTERS, 443, many, 20, *addresses)
+        time.sleep(3)
+        seen = counter_looks(lab)
+        most = EACH * len(addresses)
+        assert 1 <= held.end() <= most, f"{what} beside the counter: {EACH} connections an address at most  [{held.most}]"
+        assert seen == LOOKS, f"{what} beside the counter: a clerk's looks are answered meanwhile  [{seen} of {LOOKS}]"
+        # The 21st address makes them more than Debian's nginx takes
+        assert len(addresses) == 1 or held.most > 1024, f"they hold more than a thousand connections  [{held.most}]"
 
 
 def test_strangers(lab: Lab) -> None:

@@ -337,14 +337,14 @@ def grace_of(lab: GatewayLab) -> float:
 
 
 def test_logins(lab: GatewayLab) -> None:
-    """Wrong passwords at the counter, from two addresses."""
+    """Wrong passwords of the clerk's name, from another address."""
     lab.within("clerk", "ip", "addr", "replace", "10.88.0.3/24", "dev", "eth0")
-    guesses = [lab.log_in("nobody", str(i))[0][0] for i in range(12)]
+    guesses = [lab.log_in("clerk", str(i), "--interface", "10.88.0.3")[0][0] for i in range(12)]
     assert guesses == [401] * 5 + [429] * 7, "of 12 wrong passwords five are tried and the rest have to wait"
-    (status, body, head), cookie = lab.log_in("clerk", "clerk")
+    (status, body, head), cookie = lab.log_in("clerk", "clerk", "--interface", "10.88.0.3")
     assert status == 429 and cookie == "" and "Sell" not in body and "Retry-After" in head, (
         "the right one does not help then")
-    (status, _, _), cookie = lab.log_in("clerk", "clerk", "--interface", "10.88.0.3")
+    (status, _, _), cookie = lab.log_in("clerk", "clerk")
     body = lab.curl("clerk", f"https://{COUNTER}/", "-H", f"Cookie: {cookie}")[1]
     assert status == 303 and "Sell" in body, "from another address it does"
     answers = [lab.curl("clerk", f"https://{COUNTER}/", "--interface", "10.88.0.3") for _ in range(9)]

@@ -82,7 +82,7 @@ class Faults(unittest.TestCase):
         self.machine = FakeMachine(self.folder / "machine")
         self.machine.portal, self.machine.now = str(program), time.time() + 60      # later than what is signed
         self.put_all()
-        self.enterContext(mock.patch("portal_field.doctor.base.shutil.disk_usage", return_value=mock.Mock(free=1 << 40)))
+        self.enterContext(mock.patch("portal_field.doctor.base.shutil.disk_usage", return_value=mock.Mock(free=1 << 40, total=1 << 41)))
         self.desk = self.enterContext(mock.patch.object(running, "Desk"))
 
     def put_all(self) -> None:

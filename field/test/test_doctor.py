@@ -351,8 +351,9 @@ class Base(Case):
         self.machine.path(Machine.DATABASE).write_bytes(b"no database" * 99)
         self.only_fault(base.clock, OVER, "the database's last time cannot be read")
 
-    def disk(self, free: int) -> None:
-        self.enterContext(mock.patch("portal_field.doctor.base.shutil.disk_usage", return_value=mock.Mock(free=free)))
+    def disk(self, free: int, total: int = 1 << 34) -> None:
+        usage = mock.Mock(free=free, total=total)
+        self.enterContext(mock.patch("portal_field.doctor.base.shutil.disk_usage", return_value=usage))
 
     def test_room_for_a_copy(self) -> None:
         """A database of 40 MiB: three times as much and 64 MiB are the least, eight times that is enough."""
@@ -360,11 +361,26 @@ class Base(Case):
         os.truncate(path, 40 << 20)
         need = (3 * 40 + 64) << 20
         for free, state in ((need - 1, WRONG), (need, WARNING), (8 * need - 1, WARNING), (8 * need, GOOD)):
-            self.disk(free)
-            found = self.findings_by(base.disk)
-            self.assertEqual([finding.state for finding in found], [state, state], free)
-            self.assertIn(f"{free >> 20} MiB are free for the database", found[0].what)
-            self.assertIn("for the copies", found[1].what)
+            self.disk(free, total=8 * need)
+            found, = self.findings_by(base.disk)
+            self.assertEqual(found.state, state, free)
+            self.assertIn(f"{free >> 20} MiB are free for the database, the copies, the logs", found.what)
+
+    def test_a_disk_that_fills(self) -> None:
+        """A tenth of it is free, or 2 GiB: enough. The database is small."""
+        for total, enough in ((16_000, 1600), (1_000_000, 2048)):
+            for free, state in ((enough - 1, WARNING), (enough, GOOD)):
+                self.disk(free << 20, total << 20)
+                found, = self.findings_by(base.disk)
+                self.assertEqual((found.state, "du -xh" in found.do), (state, state is WARNING), (total, free))
+
+    def test_a_log_that_is_not_rotated(self) -> None:
+        self.disk(1 << 40)
+        path = self.machine.put("/var/log/portal/counter.log", "")
+        for size, state in ((100 << 20, GOOD), ((100 << 20) + 1, WARNING)):
+            os.truncate(path, size)
+            found = self.findings_by(base.disk)[-1]
+            self.assertEqual((found.state, "counter.log has 100 MiB" in found.what), (state, state is WARNING), size)
 
     def copy(self, age: float, text: str = "a copy", said: str | None = None) -> None:
         shutil.rmtree(self.machine.path(Machine.COPIES), ignore_errors=True)

@@ -219,6 +219,7 @@ class LogIn(AtEntrance):
         browser = self.browser()
         result = []
         for i in range(4):
+            browser.known = ""      # so that it gets another number
             browser.log_in("ben")
             browser.post("/logout")
             result += [browser.log_in("anna", f"wrong-{i}-{j}").status for j in range(2)]

@@ -26,6 +26,7 @@ from browser import policy
 from desk_process import FIELD, Desk, DeskProcess, Relay, Routes, free_port
 from fake_machine import SAMPLE
 from needs import needs
+from steady import wait_until
 from test_front import serve_during_test
 
 from portal_field.counter.clerk import Counter
@@ -95,7 +96,7 @@ class CounterPage(BehindNginx):
             "snapshot": str(self.folder / "sessions.json"), "notes": str(self.folder / "notes")}
         self.counter = Counter(Desk(self.relay.port, "desk-token"), conf, Journal(self.folder / "journal.db"))
         self.counter.load_plans()
-        nginx = counter_nginx.CounterNginx(self.folder, policy())
+        self.nginx = nginx = counter_nginx.CounterNginx(self.folder, policy())
         put_accounts(self.folder)
         self.logins = logins_in(self.folder)
         self.serves(pages(self.counter, self.logins), nginx.door())
@@ -117,6 +118,40 @@ class CounterPage(BehindNginx):
         for path, size, status in (("/text", 60_000, 200), ("/text", 70_000, 413), ("/picture", 300_000, 400), ("/picture", 4_200_000, 413),
                                    ("/plan", 5_000, 413), ("/sell", 5_000, 413)):
             self.assertEqual(self.clerk(path, text="x" * size)[0], status, (path, size))
+
+    def test_who_asks_too_often_is_asked_to_wait_and_fills_no_log(self) -> None:
+        self.nginx.close()
+        conf = self.folder / "counter-nginx/page.conf"
+        text = conf.read_text()
+        self.assertIn("rate=50r/s", text)
+        conf.write_text(text.replace("rate=50r/s", "rate=1r/m"))
+        self.nginx.start()
+        self.assertEqual({self.ask("/login")[0] for _ in range(201)}, {200}, "so many at once")
+        status, head, page = self.ask("/login")
+        self.assertEqual(status, 429)
+        self.assert_headers(head, self.HEAD, status)
+        self.assertIn("There were too many requests from this computer or its network.", page)
+        for path in ("/style.css", "/counter.css", "/sheet.css", "/away.css"):
+            self.assertEqual(self.ask(path)[0], 200, "which the page needs")
+        for path in ("/fonts/none.ttf", "/busy", "/away"):
+            self.assertEqual(self.ask(path)[0], 404)
+        log = self.folder / "counter.log"
+        self.assertTrue(wait_until(lambda: "GET /away 404" in log.read_text(), 30))
+        lines = log.read_text().splitlines()
+        self.assertEqual([line for line in lines if line.endswith(" 429") or ".css" in line or "fonts" in line], [])
+        self.assertEqual(sum(line.endswith("GET /login 200") for line in lines), 202)
+
+    def test_one_address_has_sixteen_requests_in_work(self) -> None:
+        self.stops()
+        (self.folder / "counter.socket").unlink(missing_ok=True)
+        request = f"GET /login HTTP/1.1\r\nHost: {self.host}\r\n\r\n".encode()
+        with self.nginx.door() as door, contextlib.ExitStack() as held:
+            door.settimeout(30)
+            for _ in range(16):
+                bare = held.enter_context(socket.create_connection(("127.0.0.1", self.port), timeout=30))
+                held.enter_context(CONTEXT.wrap_socket(bare)).sendall(request)
+                held.enter_context(door.accept()[0])
+            self.assertEqual(self.ask("/login")[0], 429)
 
     def guess(self, word: str) -> Answer:
         """The answer to a log-in of Ben's with a wrong password."""

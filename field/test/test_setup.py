@@ -569,6 +569,13 @@ class Made(unittest.TestCase):
         wants = re.findall("(?m)^Wants=(.*)$", (self.root / "etc/systemd/system/portal-counter.service").read_text())
         self.assertIn("portal-counter-nginx.service", wants, "it starts with the page")
         self.assertIn("--kill-who=main portal-counter-nginx.service", (self.root / "etc/logrotate.d/portal").read_text())
+        connections, files = int(re.findall(r"worker_connections (\d+);", main)[0]), int(unit["Service"]["LimitNOFILE"])
+        self.assertGreater(files, 2 * connections)
+
+    def test_a_log_that_grows_is_rotated_within_the_hour(self) -> None:
+        self.assertRegex((self.root / "etc/logrotate.d/portal").read_text(), r"(?m)^ +maxsize 50M$")
+        timer = self.root / "etc/systemd/system/logrotate.timer.d/portal.conf"
+        self.assertIn("OnCalendar=hourly", timer.read_text().splitlines())
 
     def test_the_counters_file_of_earlier_versions_goes(self) -> None:
         old = self.root / "etc/nginx/conf.d/portal-counter.conf"

@@ -17,7 +17,7 @@ from test_counter import AtCounter
 
 from portal_field.counter import takings, troubles
 from portal_field.lib.desk_client import Desk
-from portal_field.lib.error_pages import away_page
+from portal_field.lib.error_pages import counter_pages
 
 SILENT, FULL = "The server does not answer: nothing can be sold", "The disk of this machine is full"
 CALL = "Whom to call: Maria, 030 1234567."
@@ -128,12 +128,14 @@ class Years(AtCounter):
 
 class Away(unittest.TestCase):
     def test_the_page_of_nginx_in_the_counters_language(self) -> None:
-        text = away_page("de", "Maria <x>, 030 1234567")
+        text, busy = counter_pages("de", "Maria <x>, 030 1234567").values()
+        self.assertIn("Laden Sie die Seite in einigen Sekunden noch einmal.", busy)
         for words in ('<html lang="de" dir="ltr">', "Anzurufen: Maria &lt;x&gt;, 030 1234567.", 'href="/away.css"'):
             self.assertIn(words, text)
         self.assertEqual((text.count("<h1>"), "<script" in text, text.count('role="alert"')), (1, False, 1))
-        self.assertNotIn("Whom to call", away_page("en", ""))
-        self.assertEqual(re.findall("%\\(", away_page("en", "")), [])
+        without_contact = "".join(counter_pages("en", "").values())
+        self.assertNotIn("Whom to call", without_contact)
+        self.assertEqual(re.findall("%\\(", without_contact), [])
 
 
 if __name__ == "__main__":

@@ -185,7 +185,7 @@ class MadeFiles(OnAMachine):
         for name in self.ports:
             self.put(name)
         venues, _ = all_venues(self.root)
-        self.assertEqual({path.name for path in make_shared(venues, MACHINE, self.root)}, {"nginx.conf", "venues.conf", "away.html", "desks.nft"})
+        self.assertEqual({path.name for path in make_shared(venues, MACHINE, self.root)}, {"nginx.conf", "venues.conf", "away.html", "busy.html", "desks.nft"})
         self.assertEqual(make_shared(venues, MACHINE, self.root), [])
         text = (self.root / "etc/portal/counter-nginx/venues.conf").read_text()
         self.assertIn("    north.example north;\n    south.example south;\n", text)

@@ -143,7 +143,8 @@ class Entrance:
         return flask.make_response(flask.redirect(f"/{name}{query}", 303))
 
     def leave(self, response: Reply) -> Reply:
-        """Sets cookies, says to nginx's log who it was, and has a page that nobody looks after lock itself."""
+        """Sets cookies, says to nginx's log who it was, and has a page that nobody looks after lock
+        itself."""
         login = flask.g.get("login")
         if login and login.number != flask.request.cookies.get(COOKIE, ""):
             response.set_cookie(COOKIE, login.number, secure=True, httponly=True, samesite="Strict", path="/")

@@ -1,5 +1,5 @@
-"""The browsers in which somebody was logged in before, by a cookie that says so: `NUMBER.MARK.MARK..`, a number
-that the browser got once, and for each name a mark that only this counter can make."""
+"""The browsers in which somebody was logged in before, by a cookie that says so: `NUMBER.MARK.MARK..`, a
+number that the browser got once, and for each name a mark that only this counter can make."""
 
 from __future__ import annotations
 
@@ -25,8 +25,8 @@ class KnownBrowsers:
         return hmac.new(self.key, f"{number} {name}".encode(), hashlib.sha256).hexdigest()[:32]
 
     def number(self, cookie: str, name: str) -> str:
-        """The number of a browser in which this name was logged in before; empty where its cookie does not say
-        so."""
+        """The number of a browser in which this name was logged in before; empty where its cookie does not
+        say so."""
         number, *marks = cookie.split(".")
         own = self.mark(number, name)
         return number if any(hmac.compare_digest(own.encode(), mark.encode()) for mark in marks) else ""

@@ -29,6 +29,9 @@ CLOCK_SLACK = 60                # seconds
 OLD_COPY = 36 * 3600            # the timer makes one each night
 NIGHTLY = "nightly copies"      # what a finding is about that has no copy of last night
 LARGE = 256 * MIB               # a database that is not copied to be looked at
+LARGEST = "du -xh --max-depth=2 / | sort -h | tail"
+ROOM = 2048 * MIB               # more than a tenth of a disk need not be free, nor more than this
+LOGS, LARGE_LOG = "/var/log/portal", 100 * MIB
 OLDEST_KERNEL = (5, 16)         # the first with nftables at a device's egress
 # which changes nothing
 REQUEST = "GET /captive HTTP/1.1\r\nHost: portal\r\nPortal-Device: 02:00:00:00:00:00\r\n\r\n"
@@ -139,24 +142,44 @@ def against_the_database(machine: Machine) -> Iterator[Finding]:
 
 
 def disk(machine: Machine) -> Iterator[Finding]:
-    """Whether there is room for what a backup needs: the copy, and a second one that the program checks."""
+    """Whether there is room for what a backup needs: the copy, and a second one that the program checks; and
+    whether a disk fills, before it is full."""
     database = machine.path(machine.DATABASE)
     size = sum(path.stat().st_size for path in (database, pathlib.Path(f"{database}-wal")) if readable(path))
-    need = 3 * size + 64 * MIB
-    for what, name in (("the database", machine.DATABASE), ("the copies", machine.COPIES + "/copy")):
-        folder = machine.path(name).parent
-        while not readable(folder):
-            folder = folder.parent
-        free, files = shutil.disk_usage(folder).free, os.statvfs(folder)
-        room = f"{folder}: {free // MIB} MiB are free for {what}"
-        if free < need or (files.f_files and files.f_favail < 100):
-            yield wrong(room if free < need else f"{folder}: no more files can be made",
-                        f"{need // MIB} MiB are the least: delete what is not needed (`du -xh --max-depth=2 "
-                        "/ | sort -h | tail`), old copies after they were carried to another machine")
-        elif free < 8 * need:
-            yield warning(room, "make room before it is needed")
+    need, disks = 3 * size + 64 * MIB, dict[int, dict[str, pathlib.Path]]()
+    for what, name in (("the database", machine.DATABASE), ("the copies", machine.COPIES + "/copy"),
+                       ("the logs", LOGS + "/log")):
+        folder = there(machine.path(name).parent)
+        disks.setdefault(folder.stat().st_dev, {})[what] = folder
+    for folders in disks.values():
+        folder = next(iter(folders.values()))
+        usage, files = shutil.disk_usage(folder), os.statvfs(folder)
+        room = f"{folder}: {usage.free // MIB} MiB are free for {', '.join(folders)}"
+        if usage.free < need or (files.f_files and files.f_favail < 100):
+            yield wrong(room if usage.free < need else f"{folder}: no more files can be made",
+                        f"{need // MIB} MiB are the least: delete what is not needed (`{LARGEST}`), old "
+                        "copies after they were carried to another machine")
+        elif usage.free < max(8 * need, min(usage.total // 10, ROOM)):
+            yield warning(room, f"make room before it is needed: `{LARGEST}`, `journalctl --disk-usage`")
         else:
             yield good(room)
+    yield from large_logs(machine)
+
+
+def large_logs(machine: Machine) -> Iterator[Finding]:
+    """The logs of nginx that are larger than their rotation leaves them."""
+    for path in sorted(machine.path(LOGS).glob("*.log")):
+        if (size := path.stat().st_size) > LARGE_LOG:
+            yield warning(f"{path} has {size // MIB} MiB, and is rotated once it has 50",
+                          f"what fills it? (`tail {path}`) Is it rotated each hour? (`systemctl list-timers "
+                          "logrotate.timer`) By hand: `systemctl start logrotate`")
+
+
+def there(folder: pathlib.Path) -> pathlib.Path:
+    """A folder, or else the nearest one above it that is there."""
+    while not readable(folder):
+        folder = folder.parent
+    return folder
 
 
 def readable(path: pathlib.Path) -> bool:

@@ -29,6 +29,11 @@ AWAY = (clerk_words("The counter's page is away"),
         clerk_words("If the browser asks whether to send a form again, say yes: it takes effect once."),
         clerk_words("If the page stays away for more than a minute, call for help."),
         clerk_words("Whom to call: %(who)s."))
+BUSY = (clerk_words("Please wait a moment"),
+        clerk_words("There were too many requests from this computer or its network. This one was not "
+                    "carried out."),
+        clerk_words("Load the page again in some seconds. If the browser asks whether to send a form again, "
+                    "say yes: it takes effect once."))
 BACK = guest_words("Back to the page")
 
 
@@ -40,13 +45,15 @@ def rendered(name: str, **values: object) -> str:
     return templates.get_template(name).render(**values) + "\n"
 
 
-def away_page(tag: str, contact: str) -> str:
-    """What the counter's nginx shows while the counter's page does not run. `contact`: whom to call, or
-    nothing."""
-    language = Language(tag, "counter")
-    title, *lines = (language.say(text, **({"who": contact} if "%(who)s" in text else {}))
-                     for text in (AWAY if contact else AWAY[:-1]))
-    return rendered("away.html", language=language, title=title, lines=lines)
+def counter_pages(tag: str, contact: str) -> dict[str, str]:
+    """What the counter's nginx shows by itself, by the name of the file: while the counter's page does not
+    run, and to who asks too often. `contact`: whom to call, or nothing."""
+    language, pages = Language(tag, "counter"), {}
+    for name, words in (("away.html", AWAY if contact else AWAY[:-1]), ("busy.html", BUSY)):
+        title, *lines = (language.say(text, **({"who": contact} if "%(who)s" in text else {}))
+                         for text in words)
+        pages[name] = rendered("away.html", language=language, title=title, lines=lines)
+    return pages
 
 
 def error_pages(venue_name: str) -> dict[str, str]:

@@ -37,7 +37,7 @@ from portal_field.doctor.optional import optional
 from portal_field.doctor.others import others
 from portal_field.doctor.prices import free_minutes, plans
 from portal_field.lib import colours
-from portal_field.lib.error_pages import away_page, error_pages
+from portal_field.lib.error_pages import counter_pages, error_pages
 from portal_field.lib.language_names import GUESTS
 from portal_field.radius import radius_files
 from portal_field.settings import accounts, clerk_account, venue_file
@@ -62,6 +62,7 @@ INSTALLED = {       # from the kit, with the words between @ signs filled in
     "units/logrotate.conf": "etc/logrotate.d/portal",
     "units/nginx.conf": "etc/systemd/system/nginx.service.d/portal.conf",
     "units/dnsmasq.conf": "etc/systemd/system/dnsmasq.service.d/portal.conf",
+    "units/logrotate-timer.conf": "etc/systemd/system/logrotate.timer.d/portal.conf",
     **{f"units/{unit}": f"etc/systemd/system/{unit}" for unit in (
         "portal.service", "portal-rules@.service", "portal-gateway.service", "portal-leases.service",
         "portal-front.service", "portal-counter.service", "portal-counter-nginx.service",
@@ -336,8 +337,8 @@ class Maker:
             self.remove(self.root / OPEN_TO_BOTH)
         else:
             self.write(self.root / OPEN_TO_BOTH, "[Socket]\nSocketGroup=www-data\n")
-        away = away_page(field.counter_language, self.owner_contact())
-        self.write(self.etc / "counter-nginx/away.html", away)
+        for name, text in counter_pages(field.counter_language, self.owner_contact()).items():
+            self.write(self.etc / "counter-nginx" / name, text)
         for name, text in error_pages(field.house).items():
             self.write(self.etc / "errors" / name, text)
 

@@ -11,7 +11,7 @@ import secrets
 from collections.abc import Iterable
 
 from portal_field import KIT
-from portal_field.lib.error_pages import away_page
+from portal_field.lib.error_pages import counter_pages
 from portal_field.radius import radius_files
 from portal_field.settings.maker import POLICY, Maker
 from portal_field.settings.venue import Field
@@ -159,8 +159,9 @@ def make_shared(venues: dict[str, Field], machine: Machine, root: pathlib.Path,
             main = main.replace(f"@{word}@", str(value))
         maker.write(nginx / "nginx.conf", main)
         maker.write(page, text)
-        if not (nginx / "away.html").exists():
-            maker.write(nginx / "away.html", away_page("en", ""))
+        for name, words in counter_pages("en", "").items():
+            if not (nginx / name).exists():
+                maker.write(nginx / name, words)
     else:
         maker.remove(page)
     if address := office_address(machine) if venues else "":
