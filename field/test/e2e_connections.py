@@ -3,12 +3,13 @@
 from __future__ import annotations
 
 import contextlib
+import re
 import time
 from collections.abc import Iterator
 
 import pytest
 from lab import PEER, PORTAL, Lab
-from network import COUNTER, FIELD, MACS, NAME, PYTHON
+from network import COUNTER, FIELD, MACS, NAME, OUTSIDE, PYTHON
 from steady import assert_measured
 
 ATTACKER = FIELD / "test/attacker.py"
@@ -17,6 +18,7 @@ QUICK = ("--max-time", "3")
 MANY, LOOKS = 3300, 20      # half requests, and looks of others meanwhile
 EACH, TOGETHER = 48, 64     # connections of a leased address, and of all others together
 BY_HAND, STRANGERS = "10.77.0.9", [f"10.77.0.{number}" for number in range(10, 30)]
+INSIDE = "192.168.9.9"      # a network of the venue's own
 BESIDE = [f"10.88.0.{number}" for number in range(66, 96)]      # on the counter's network
 WORDS = "no address from this network"
 
@@ -198,5 +200,41 @@ def test_apart(lab: Lab) -> None:
     lab.web("counter-nginx")
 
 
+def leaves(lab: Lab, space: str) -> tuple[bool, int]:
+    """Whether a packet of the counter's network is answered from outside, and how many have come out with its address."""
+    lab.within("outside", "nft", "add table inet c; flush table inet c; add chain inet c i { type filter hook input priority 0; }; "
+               "add rule inet c i ip saddr 10.88.0.0/24 counter")
+    answered = lab.reaches(space)
+    seen = re.search(r"counter packets (\d+)", lab.within("outside", "nft", "list", "table", "inet", "c").stdout)
+    assert seen
+    return answered, int(seen[1])
+
+
+def test_kept_in(lab: Lab) -> None:
+    assert leaves(lab, "clerk") == (False, 0), "no packet of the counter's network leaves the venue"
+
+
 def test_no_fault_in_a_log(lab: Lab) -> None:
     assert lab.faults_in_logs("Traceback") == {}, "no fault in a log"
+
+
+@pytest.mark.lab(kind=Lab, counter_internet=True)
+def test_let_out(lab: Lab) -> None:
+    """The counter's network where field.toml lets it out: a card reader there."""
+    assert leaves(lab, "clerk") == (True, 0), "it reaches the outside, by the gateway's own address"
+    lab.within("outside", "ip", "addr", "replace", INSIDE + "/32", "dev", "lo")
+    lab.within("gw", "ip", "route", "replace", INSIDE, "via", OUTSIDE)
+    assert lab.reaches("gw", host=INSIDE), "the gateway itself reaches a network of the venue's own"
+    out = lab.packets_outside()
+    assert not lab.reaches("clerk", host=INSIDE) and lab.packets_outside() == out, "and no network of the venue's own behind it"
+    for space in ("clerk", "guest2"):
+        lab.begin(space, PYTHON, PEER, "door", "0.0.0.0", 7777)
+        lab.until(lambda: knocks(lab, space, "127.0.0.1", 7777), what="a door")
+    lab.within("outside", "ip", "route", "replace", "10.88.0.0/24", "via", OWN)
+    assert not knocks(lab, "outside", "10.88.0.2", 7777), "nobody outside reaches it unasked"
+    assert not knocks(lab, "clerk", lab.address("guest2"), 7777), "it does not reach guests"
+    assert not knocks(lab, "guest2", "10.88.0.2", 7777), "nor do guests reach it"
+    out = lab.packets_outside()
+    assert not lab.reaches("guest1") and lab.packets_outside() == out, "a guest without a session is blocked as before"
+    lab.online("guest1")
+    assert lab.reaches("guest1"), "and one with a session passes"

@@ -104,13 +104,14 @@ class File(unittest.TestCase):
 
     def test_the_sample_has_limits_that_serve_a_cafe(self) -> None:
         field = Field.read(SAMPLE)
-        self.assertEqual((field.counter_lock_minutes, field.clerk_refund_limit), (10, 2000))
+        self.assertEqual((field.counter_lock_minutes, field.clerk_refund_limit, field.counter_internet), (10, 2000, False))
         lines = re.sub("(?m)^(counter_lock_minutes|clerk_refund_limit).*\n", "", SAMPLE)
         self.assertEqual(Field.read(lines), field, "a file of before goes on")
         for key, value in (("counter_lock_minutes", "-1"), ("counter_lock_minutes", "481"), ("counter_lock_minutes", "1.5"),
-                           ("counter_lock_minutes", "true"), ("clerk_refund_limit", "-1"), ("clerk_refund_limit", '"5"')):
+                           ("counter_lock_minutes", "true"), ("clerk_refund_limit", "-1"), ("clerk_refund_limit", '"5"'),
+                           ("counter_internet", "1"), ("counter_internet", '"yes"')):
             with self.assertRaisesRegex(BadSettings, key):
-                Field.read(re.sub(f"(?m)^{key} = [0-9]+", f"{key} = {value}", SAMPLE))
+                Field.read(re.sub(rf"(?m)^{key} = \w+", f"{key} = {value}", SAMPLE))
         for value in ("0", "480"):
             Field.read(re.sub("(?m)^counter_lock_minutes = [0-9]+", f"counter_lock_minutes = {value}", SAMPLE))
 

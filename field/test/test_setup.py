@@ -32,7 +32,7 @@ OWN_NAMES = SAMPLE.replace("wifi.example", "wifi.venue.lan").replace("counter.ex
 LATER = ("desk_port", "poll_seconds", "grace_seconds", "quiet_seconds", "time_quiet_seconds",
          "without_browser", "clock", "on_failure", "currency", "wifi", "wifi_password", "logo", "voucher_size",
          "voucher_barcode", "daily_report", "owner_contact", "counter_language", "voucher_languages", "payments",
-         "drawers", "receipt_size", "receipt_head", "csv_separator",
+         "drawers", "receipt_size", "receipt_head", "csv_separator", "counter_internet",
          "metrics", "metrics_takings")     # keys with a default
 SERVICES = ("portal", "portal-gateway", "portal-leases", "portal-front", "portal-counter")
 SECRETS = ("desk_token", "gateway_token", "form_key")

@@ -328,6 +328,7 @@ class Maker:
             "LEASE_MAX": leases, "LEASE_FILE": self.leases, "NEIGHBOURS": neighbours,
             "NEIGHBOURS_2": 2 * neighbours,
             "NEIGHBOURS_4": 4 * neighbours, "LISTED": field.set_elements(), "OWN_NAME": field.own_name(),
+            "LET_OUT": field.let_out(),
             "LOGO": field.logo or self.etc / "guests/no-logo", "PICTURE": self.etc / PICTURE_FILE}
         for source, goal in self.goals.items():
             text = re.sub("@([A-Z_0-9]+)@", lambda word: str(words[word[1]]), (KIT / source).read_text())

@@ -13,7 +13,8 @@ BROUGHT = {
                    "ca8f61c470ef684963fdb46579243e4b458feb032caf47af8572da85e549d936",
                    "38f92ea4f31ef385822af1787f426ab8eb920e925dc3de17408528728fd98cdd",
                    "db44d19a2110a0294a176961cbad9b5c8fa05a24c81156a124e8836babe47961",
-                   "2edb37a34a5751e30e84592b4c16913976f428f1b24abaed6752ebc6f8f77e76"),
+                   "2edb37a34a5751e30e84592b4c16913976f428f1b24abaed6752ebc6f8f77e76",
+                   "319be1122b9e60d775c982fc6283ccd5f8900e6b8a3bfc89b20dcd8a136b888e"),
     "plans.toml": ("ca0ba1a856133fe9992cafc02799f8dfa8a368be378e0feea47a13d750fc8950",      # 1.0.0
                    "5bcdc071748dcb50e4305350c50923aa98372fc1b7fefacb4deeb36743a7a9bc"),
 }

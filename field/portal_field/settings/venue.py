@@ -137,6 +137,7 @@ class Field:
     counter_language: str = "en"
     voucher_languages: list[str] = listing(default_factory=lambda: ["en"])
     owner_contact: str = ""
+    counter_internet: bool = False
     counter_lock_minutes: int = 10
     clerk_refund_limit: int = 2000
     payments: list[str] = listing(default_factory=lambda: ["cash"])
@@ -241,6 +242,8 @@ class Field:
             value = getattr(self, key)
             if isinstance(value, bool) or not isinstance(value, int) or not 0 <= value <= most:
                 raise BadSettings(f"{key} = {value!r}: {what}")
+        if not isinstance(self.counter_internet, bool):
+            raise BadSettings(f"counter_internet = {self.counter_internet!r}: true or false")
 
     def check_services(self) -> None:
         """BadSettings: the clock, the key of the copies or a command is not valid."""
@@ -345,6 +348,11 @@ class Field:
         macs = ", ".join(sorted({mac.lower() for mac in self.without_browser}))
         return "".join(f"add element {family} portal listed {{ {macs} }}\n" for family in ("inet", "netdev")
                        if macs)
+
+    def let_out(self) -> str:
+        """The element of portal.nft that lets the counter's network out to the internet, where it may."""
+        network = ipaddress.IPv4Interface(self.counter).network
+        return f"add element inet portal let_out {{ {network} }}\n" if self.counter_internet else ""
 
     def own_name(self) -> str:
         """The rules of portal.nft that recognise questions for the portal's name (RFC 1035 section 4.1.2), in

@@ -13,7 +13,8 @@ from portal_field.venues.places import BadVenue, Places, venues_in
 # stand in for what no file of such a venue has.
 OF_A_GATEWAY: dict[str, Any] = {
     "lan": "lan0", "wan": "wan0", "guests": "10.77.0.1/22", "leases": ["10.77.0.50", "10.77.3.250", "1h"],
-    "counter": "10.88.0.1/24", "poll_seconds": 1.0, "grace_seconds": 5, "without_browser": []}
+    "counter": "10.88.0.1/24", "poll_seconds": 1.0, "grace_seconds": 5, "without_browser": [],
+    "counter_internet": False}
 OF_THE_MACHINE: dict[str, Any] = {
     "cert": "/etc/portal/tls/cert.pem", "key": "/etc/portal/tls/key.pem", "clock": "kernel",
     "on_failure": [], "backup_key": "", "metrics": "", "metrics_takings": False}
