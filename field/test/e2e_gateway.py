@@ -332,6 +332,59 @@ def test_reloaded(lab: GatewayLab) -> None:
     assert sysctl(lab, "ipv4/ip_forward") == "1", "the next agent turns forwarding on"
 
 
+ASKS = """import socket, sys
+with socket.socket(socket.AF_UNIX) as link:
+    link.settimeout(5)
+    link.connect(sys.argv[1])
+    print(link.recv(1).decode())
+"""
+
+
+def stop_in_order(lab: GatewayLab) -> str:
+    """Stops the server as its parent does, which asks the agent first; what the agent answers."""
+    answer = lab.within("gw", PYTHON, "-c", ASKS, lab.root / "run/portal-gateway/stops").stdout.strip()
+    lab.stop("desk", kill=True)
+    return answer
+
+
+def connects(lab: GatewayLab, user: int) -> bool:
+    """Whether a process of this user comes to the desk's port."""
+    words = (PYTHON, PEER, "knock", "127.0.0.1", 8080)
+    return lab.within("gw", "setpriv", f"--reuid={user}", "--clear-groups", *words, check=False).returncode == 0
+
+
+def test_started_again(lab: GatewayLab) -> None:
+    """The server is stopped in order, and takes longer to start than the grace."""
+    for guest, plan in (("guest1", "hour"), ("guest2", "small")):
+        if lab.session_of(guest) is None:
+            lab.redeem(guest, lab.codes(plan, 1)[0])
+        lab.until(lambda: lab.reaches(guest), 6, "packets")
+    strangers = lab.within("gw", "setpriv", f"--reuid={USERS['front'][0]}", "--regid=7001", "--clear-groups", PYTHON, "-c", ASKS,
+                           lab.root / "run/portal-gateway/stops").stdout.strip()
+    assert strangers == "" and connects(lab, 0), "another part of the venue, as the guests' page, closes nothing"
+    assert stop_in_order(lab) == "k", "the agent takes its last list"
+    load = ("python3", "-P", "-m", "portal_field.gateway.rules", "lan0", lab.root / "etc/portal/rules.nft")
+    lab.within("gw", "env", f"PYTHONPATH={FIELD}", "PYTHONDONTWRITEBYTECODE=1", *load)      # as a reload meanwhile
+    lab.start("door", PYTHON, PEER, "door", "127.0.0.1", 8080)
+    lab.until(lambda: lab.listening(8080), what="port 8080")
+    assert [connects(lab, user) for user in (0, USERS["counter"][0], USERS["gateway"][0])] == [False, False, True], (
+        "after that none of the other parts comes to the desk")
+    time.sleep(grace_of(lab) + 3.0)
+    assert lab.reaches("guest1") and lab.reaches("guest2"), "guests go on while the server is away for longer than the grace"
+    lab.tcp("guest2", "take", 4_000_000)
+    lab.until(lambda: not lab.reaches("guest2"), 4, "the end of its bytes")
+    assert lab.reaches("guest1"), "a session ends at its own byte, and others go on"
+    lab.stop("door")
+    lab.desk()
+    lab.until(lambda: connects(lab, 0), 5, "the desk")
+    assert lab.session_of("guest2") is None and lab.reaches("guest1") and not lab.reaches("guest2"), (
+        "the server gets the count of the session that ended meanwhile")
+    lab.send_as_clerk("close", session=lab.session_of("guest1"))
+    assert stop_in_order(lab) == "k" and not lab.reaches("guest1"), "a session that is closed just before a stop stays out"
+    lab.desk()
+    lab.until(lambda: connects(lab, 0), 5, "the desk")
+
+
 def grace_of(lab: GatewayLab) -> float:
     return float(tomllib.loads((lab.root / "field.toml").read_text())["grace_seconds"])
 

@@ -96,6 +96,7 @@ def answers() -> dict[str, str | tuple[int, str]]:
         "nft -j list set inet portal bound": as_nft_prints_set("bound", {"concat": [PHONE, "10.77.0.50"]}),
         "ip -j -4 neigh show dev lan0 nud permanent":
             json.dumps([{"dst": "10.77.0.50", "lladdr": PHONE, "extern_learn": None, "state": ["PERMANENT"]}]),
+        "nft -j list set inet portal desk_closed": as_nft_prints_set("desk_closed"),
         "nft -j list set inet portal alive": as_nft_prints("lan0"), "systemd-escape -- lan0": "lan0\n",
         "systemctl show ": as_systemd_prints(), "journalctl ": "", "uname -r": "6.1.0-28-amd64\n",
         "/usr/bin/portal --version": "portal 1.0.0 (database schema version 6)\n", "nft --version": "nftables v1.0.6\n",

@@ -143,7 +143,7 @@ class Network(Programs):
         """Loads the packet rules as their unit does; the users are this test's numbers."""
         path = self.root / "etc/portal/rules.nft"
         text = re.sub(r"define desk_users = .*", "define desk_users = { 0, 33, 7001, 7002, 7003, 7006 }", path.read_text())
-        path.write_text(text)
+        path.write_text(text.replace('desk_keepers { "portal", "portal-gateway" }', "desk_keepers { 7000, 7001 }"))
         self.within("gw", "nft", "-f", path)
 
     def files(self) -> None:

@@ -451,6 +451,13 @@ class Running(Case):
             self.machine.says["nft -j list set"] = shown
             self.only_fault(running.rules, WRONG, "the grace timer does not run")
 
+    def test_sessions_that_go_on_without_the_server(self) -> None:
+        closed = as_nft_prints_set("desk_closed", {"elem": {"val": "lo", "timeout": 60, "expires": 41}})
+        self.machine.says["nft -j list set inet portal desk_closed"] = closed
+        self.only_fault(running.rules, NOTE, "the sessions go on without it for a minute at most")
+        del self.machine.says["nft -j list set inet portal desk_closed"]
+        self.all_good(running.rules)
+
     def test_devices_that_are_not_bound(self) -> None:
         self.assertIn("the set `bound` has the 1 devices of the neighbour table",
                       [finding.what for finding in self.findings_by(running.rules)])

@@ -67,7 +67,8 @@ class InANamespace(unittest.TestCase):
 
     def test_rules(self) -> None:
         self.assertIn("not loaded (inet, netdev)", self.wrong("rules"))
-        rules = (FIELD / "settings/rules.nft").read_text().replace("@OWN_NAME@@LISTED@", "").replace("@PORT@", "8080")
+        rules = (FIELD / "settings/rules.nft").read_text().replace("@OWN_NAME@@LET_OUT@@LISTED@", "").replace("@PORT@", "8080")
+        rules = rules.replace('keepers { "portal", "portal-gateway" }', "keepers { 0 }")
         rules = rules.replace("@GUESTS@", "10.77.0.1").replace("@COUNTER@", "10.88.0.1")
         rules = rules.replace("@LAN@", "lan0").replace("@WAN@", "wan0").replace("@FIELD@", str(FIELD))
         path = self.folder / "rules.nft"

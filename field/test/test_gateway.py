@@ -3,6 +3,7 @@
 from __future__ import annotations
 
 import contextlib
+import io
 import itertools
 import json
 import pathlib
@@ -32,6 +33,7 @@ class MemoryDesk:
         self.asked: list[tuple[int, int]] = []
         self.fault: Exception | None = None
         self.deaf = False
+        self.seconds: dict[int, int] = {}       # that are left
         self.more: list[str] = []       # what else a request carried
         self.work: Callable[[], None] = lambda: None    # what a report costs
 
@@ -56,7 +58,8 @@ class MemoryDesk:
         rows = []
         for number, device in sorted(self.open.items()):
             left = self.allowance.get(number, 0) - self.used.get(number, 0)
-            rows.append({"device": device, "session": number, **({"bytes-remaining": left} if left > 0 else {})})
+            rows.append({"device": device, "session": number, **({"bytes-remaining": left} if left > 0 else {}),
+                         **({"seconds-remaining": self.seconds[number]} if number in self.seconds else {})})
         return {"sessions": rows}
 
 
@@ -66,6 +69,7 @@ class MemoryGate:
         self.now: dict[str, Passing] = {}
         self.is_open = self.is_gone = self.is_barred = self.loads = self.is_empty = self.is_new = False
         self.readings = 0       # how often all of it was read
+        self.closed_for = 0     # seconds that the desk is closed
 
     def guard(self) -> None:
         pass
@@ -107,6 +111,15 @@ class MemoryGate:
 
     def shut(self) -> None:
         self.is_open = False
+
+    def close_desk(self, seconds: int) -> None:
+        self.closed_for = seconds
+
+    def open_desk(self) -> None:
+        self.closed_for = 0
+
+    def is_desk_closed(self) -> bool:
+        return self.closed_for > 0
 
 
 class Polls(unittest.TestCase):
@@ -448,6 +461,154 @@ class Polls(unittest.TestCase):
             self.agent = self.fresh(str(path))      # which does not know when it was reported
             self.poll()
             self.assertEqual(self.session_in_list(path, None), {"device": A, "session": 1, "used": 77})
+
+
+class Stopped(Polls):
+    """The server is stopped in order, and silent while it starts again."""
+
+    def setUp(self) -> None:
+        super().setUp()
+        self.log = io.StringIO()
+        self.enterContext(contextlib.redirect_stderr(self.log))
+
+    def silent_polls(self, count: int) -> None:
+        """So many seconds in which the server is silent."""
+        self.desk.fault = NoAnswer("refused")
+        for _ in range(count):
+            self.poll()
+
+    def renewed(self) -> float:
+        """Seconds since the kernel's timeout was renewed."""
+        return self.time - self.gate.renewed_at[-1]
+
+    def test_sessions_go_on_for_a_minute_at_most(self) -> None:
+        self.open_session()
+        self.assertTrue(self.agent.close_desk())
+        self.assertEqual(self.gate.closed_for, 60, "nobody else asks the desk meanwhile")
+        self.silent_polls(59)
+        self.assertEqual((set(self.gate.now), self.renewed()), ({A}, 0))
+        self.silent_polls(10)
+        self.assertEqual(self.renewed(), 10, "then the kernel's timeout runs")
+        self.assertEqual(self.log.getvalue().count("the sessions go on for a minute at most"), 1)
+
+    def test_the_kernels_timeout_is_within_the_minute(self) -> None:
+        self.agent = Agent(cast(Desk, self.desk), self.gate, now=lambda: self.time, kept=55)
+        self.open_session()
+        self.agent.close_desk()
+        self.silent_polls(70)
+        self.assertEqual(self.renewed(), 16)
+
+    def test_after_a_crash_nothing_is_kept(self) -> None:
+        self.open_session()
+        self.silent_polls(3)
+        self.assertEqual(self.renewed(), 3)
+
+    def test_what_was_closed_before_the_stop_stays_out(self) -> None:
+        self.open_session(1, A)
+        self.open_session(2, B)
+        del self.desk.open[1]       # within the second before the stop
+        self.agent.close_desk()
+        self.silent_polls(2)
+        self.assertEqual(set(self.gate.now), {B})
+
+    def test_a_number_that_is_another_sessions_is_over(self) -> None:
+        """As where somebody put another session's element there meanwhile."""
+        self.open_session(1, A)
+        self.open_session(2, B)
+        self.agent.close_desk()
+        self.gate.now[A].session = 7
+        self.silent_polls(1)
+        self.assertEqual(set(self.gate.now), {B})
+
+    def test_without_its_last_list_nothing_is_kept(self) -> None:
+        self.open_session()
+        self.desk.fault = NoAnswer("too late")
+        self.assertFalse(self.agent.close_desk())
+        self.assertEqual(set(self.gate.now), {A})
+        self.assertEqual(self.gate.closed_for, 0, "and all parts may ask")
+        self.silent_polls(3)
+        self.assertGreaterEqual(self.renewed(), 3)
+
+    def test_a_poll_with_many_reports_takes_the_list_too(self) -> None:
+        self.desk.allowance = {1: 1000}
+        self.open_session(counted=900)
+
+        def takes_long() -> None:
+            self.time += 2
+
+        self.desk.work = takes_long
+        self.assertTrue(self.agent.close_desk())
+        self.assertEqual(self.desk.used, {1: 900})
+        self.silent_polls(3)
+        self.assertEqual((self.gate.closed_for, self.renewed()), (60, 0))
+
+    def test_a_server_that_says_stopped_ends_it(self) -> None:
+        self.open_session()
+        self.agent.close_desk()
+        self.silent_polls(2)
+        self.desk.fault = Refused(503, "stopped")
+        self.poll()
+        self.assertFalse(self.gate.is_open)
+        self.silent_polls(2)
+        self.assertFalse(self.gate.is_open)
+
+    def test_each_session_ends_at_its_own_second(self) -> None:
+        self.open_session(1, A)
+        self.open_session(2, B)
+        self.desk.seconds = {1: 10, 2: 90}
+        self.agent.close_desk()
+        self.silent_polls(9)
+        self.assertEqual(set(self.gate.now), {A, B})
+        self.silent_polls(1)
+        self.assertEqual(set(self.gate.now), {B})
+
+    def test_each_session_ends_at_its_own_byte(self) -> None:
+        self.desk.allowance = {1: 1000, 2: 1000}
+        self.open_session(1, A, counted=500)
+        self.open_session(2, B)
+        self.poll()             # which reports 500 of the first
+        self.agent.close_desk()
+        for used, passes in ((999, {A, B}), (1000, set[str]())):
+            self.gate.now[A].count = self.gate.now[B].count = used
+            self.silent_polls(1)
+            self.assertEqual(set(self.gate.now), passes, used)
+        self.desk.fault = None
+        self.poll()
+        self.assertEqual(self.desk.used, {1: 1000, 2: 1000}, "its last count is reported then")
+
+    def test_once_the_server_answers_its_list_counts_and_all_may_ask(self) -> None:
+        self.open_session()
+        self.agent.close_desk()
+        self.poll(0.05)
+        self.assertEqual(self.gate.closed_for, 60, "as it is about to be stopped")
+        self.silent_polls(20)
+        self.desk.fault, self.desk.open = None, {2: B}
+        self.poll()
+        self.assertEqual((set(self.gate.now), self.gate.closed_for), ({B}, 0))
+        self.silent_polls(2)
+        self.assertEqual(self.renewed(), 2, "a crash after it is one as any other")
+
+    def test_a_server_that_was_not_stopped_is_open_to_all_again(self) -> None:
+        self.open_session()
+        self.agent.close_desk()
+        self.poll()
+        self.assertEqual(self.gate.closed_for, 0)
+
+    def test_where_the_desk_is_open_again_nothing_is_kept(self) -> None:
+        """As after rules that were loaded without what they held: the server may have answered somebody."""
+        self.open_session()
+        self.agent.close_desk()
+        self.silent_polls(2)
+        self.gate.closed_for = 0
+        self.silent_polls(2)
+        self.assertEqual(self.renewed(), 2)
+
+    def test_an_agent_opens_what_the_one_before_closed(self) -> None:
+        self.open_session()
+        self.agent.close_desk()
+        self.agent = self.fresh()
+        self.poll()
+        self.assertEqual(self.gate.closed_for, 0)
 
 
 class Paced(unittest.TestCase):

@@ -364,6 +364,27 @@ class Runs(Folder):
         self.assertFalse(self.answers())
         self.assertFalse((self.folder / "state").exists())
 
+    def test_stopped_by_systemd_it_asks_the_gateway_first(self) -> None:
+        """So that the agent takes its last list from a server that answers."""
+        conf, path = self.folder / "server.toml", self.folder / "stops"
+        conf.write_text('clock = "host"\nzone = "UTC0"\n')
+        door = self.enterContext(socket.socket(socket.AF_UNIX))
+        door.bind(str(path))
+        door.listen()
+        door.settimeout(20)
+        words = [sys.executable, "-m", "portal_field.server.parent", "--portal", PORTAL, "--port", self.port, "--db",
+                 self.folder / "desk.db", "--settings", self.folder / "settings.toml", "--notes", self.folder, "--gateway", path]
+        with subprocess.Popen([str(word) for word in words], stderr=subprocess.PIPE,
+                              env={**os.environ, "FIELD_SETTINGS": str(conf)}) as job:
+            self.assertTrue(self.until(self.answers))
+            job.terminate()
+            asked = False
+            with contextlib.suppress(TimeoutError), door.accept()[0] as link:
+                asked = self.answers()
+                link.sendall(b"k")
+            self.assertTrue(asked)
+            self.assertEqual(job.wait(60), 0)
+
 
 class Failed(Folder):
     def outcome(self, unit: str, command: list[str]) -> tuple[int, str]:

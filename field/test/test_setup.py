@@ -572,6 +572,14 @@ class Made(unittest.TestCase):
         connections, files = int(re.findall(r"worker_connections (\d+);", main)[0]), int(unit["Service"]["LimitNOFILE"])
         self.assertGreater(files, 2 * connections)
 
+    def test_the_gateway_is_asked_before_the_server_is_stopped(self) -> None:
+        """By the server's parent, which alone gets systemd's signal."""
+        service = self.unit("portal.service")["Service"]
+        stops = tomllib.loads((self.root / "etc/portal/gateway.toml").read_text())["stops"]
+        gateway = re.findall(r"--gateway (\S+)", service["ExecStart"])
+        self.assertEqual((gateway, service.get("KillMode")), ([stops.removeprefix(str(self.root))], "mixed"))
+        self.assertIn("portal-gateway", service["SupplementaryGroups"].split())
+
     def test_a_log_that_grows_is_rotated_within_the_hour(self) -> None:
         self.assertRegex((self.root / "etc/logrotate.d/portal").read_text(), r"(?m)^ +maxsize 50M$")
         timer = self.root / "etc/systemd/system/logrotate.timer.d/portal.conf"

@@ -42,6 +42,7 @@ def rules(machine: Machine) -> Iterator[Finding]:
     else:
         yield good("the tables are loaded")
         yield grace(machine, lan)
+        yield from kept(machine)
         yield from all_about("bound", [bound(machine, lan)])
         yield good("packets are forwarded") if forwards else \
             wrong("packets are not forwarded: no guest gets out", f"`systemctl restart {unit}`")
@@ -57,6 +58,15 @@ def grace(machine: Machine, lan: str) -> Finding:
     return wrong("the grace timer does not run: all guests are blocked, as the agent or the server is silent",
                  "`systemctl status portal-gateway portal`, `journalctl -u portal-gateway -n 20`",
                  "grace timer")
+
+
+def kept(machine: Machine) -> Iterator[Finding]:
+    """Whether guests go on by the agent's last list, as the server was stopped in order. Rules of an earlier
+    version have no such set."""
+    shown = machine.run("nft", "-j", "list", "set", "inet", "portal", "desk_closed")
+    if shown.returncode == 0 and '"lo"' in shown.stdout:
+        yield note("the server was stopped in order: the sessions go on without it for a minute at most",
+                   "for longer `systemctl start portal`")
 
 
 def elements_of(machine: Machine, name: str) -> list[Any]:

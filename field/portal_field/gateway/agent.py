@@ -6,6 +6,7 @@ element's counter and its comment `SESSION+BASE` say which session is counted, a
 
 from __future__ import annotations
 
+import contextlib
 import json
 import os
 import pathlib
@@ -16,11 +17,13 @@ import time
 from collections.abc import Callable, Iterable
 from typing import Any, Protocol
 
+from portal_field.gateway import last_list
+from portal_field.gateway.last_list import LastList, Row
 from portal_field.gateway.passing import Passing, RulesAreGone
+from portal_field.lib import doors
 from portal_field.lib.desk_client import Desk, NoAnswer, Refused, Routes, credential, settings
 from portal_field.lib.notify import notify_systemd
 
-Row = dict[str, Any]    # an open session as the desk lists it
 NEAR_END = 8            # a report is due when this part of what is left was used
 MOST_REPORTS = 50       # a poll; the others wait for the next, which then comes at once
 LONGEST = 3.0           # seconds that a poll spends on reports, since the list that it works on grows old
@@ -35,7 +38,7 @@ PACE = 12_500_000       # bytes a second that any device may use; one that used 
 GOLDEN = 0.6180339887   # parts of an interval by numbers that follow one another: evenly spread, however many
 
 
-class Gate(Protocol):
+class Gate(last_list.Gate, Protocol):
     """What the agent needs of the kernel's sets; the tests have another one."""
 
     def passing(self) -> dict[str, Passing]:
@@ -64,7 +67,8 @@ class Agent:
     """Polls the server, and lets those devices pass that have an open session."""
 
     def __init__(self, desk: Desk, gate: Gate, snapshot: str | None = None, quiet: float = 30.0,
-                 time_quiet: float = 600.0, now: Callable[[], float] = time.monotonic) -> None:
+                 time_quiet: float = 600.0, now: Callable[[], float] = time.monotonic,
+                 kept: float = last_list.CLOSED) -> None:
         self.desk, self.gate, self.snapshot, self.now = desk, gate, snapshot, now
         self.quiet, self.time_quiet = quiet, time_quiet
         self.server_counts: dict[int, tuple[int, float]] = {}    # session: bytes, when
@@ -81,6 +85,10 @@ class Agent:
         self.known: dict[str, Passing] | None = None
         self.read_at = 0.0                          # when the kernel was read as a whole
         self.pace: dict[int, float] = {}            # session: bytes a second between the last two readings
+        self.last = LastList(gate, now, kept)
+        # device and session: the count of those that ended while the server was silent, for which the desk
+        # may hold them open
+        self.ended: dict[tuple[str, int], int] = {}
 
     def change(self, gone: Iterable[str], come: dict[str, Passing]) -> None:
         """Changes who passes, which renews the kernel's timeout."""
@@ -166,7 +174,8 @@ class Agent:
         come = {}
         for mac, row in wanted.items():
             if mac not in stay and self.may_report():
-                is_open, used = self.report(row["session"], 0)
+                is_open, used = self.report(row["session"], self.ended.get((mac, row["session"]), 0))
+                self.ended.pop((mac, row["session"]), None)
                 if is_open:
                     come[mac] = Passing(row["session"], used, 0)
                 if "bytes-remaining" not in row:
@@ -210,6 +219,8 @@ class Agent:
         self.gate.guard()
         self.gate.check_rules()                  # also where the desk is silent
         wanted = {row["device"]: row for row in self.desk.request_json(Routes.SESSIONS)["sessions"]}
+        if self.last.closed_at is not None:
+            self.last.take(wanted, {session: count for session, (count, _) in self.server_counts.items()})
         now, fresh = self.look(wanted)
         self.known = None                   # until this poll comes to its end
         stay = {mac: p for mac, p in now.items() if mac in wanted and wanted[mac]["session"] == p.session}
@@ -233,6 +244,7 @@ class Agent:
     def forget(self, wanted: dict[str, Row]) -> None:
         """Drops what is kept of sessions that are over."""
         sessions = {row["session"] for row in wanted.values()} | self.unreported.keys()
+        self.ended = {key: used for key, used in self.ended.items() if key[1] in sessions}
         self.server_counts = {session: count for session, count in self.server_counts.items()
                               if session in sessions}
         self.reported_at = {session: when for session, when in self.reported_at.items()
@@ -274,6 +286,7 @@ class Agent:
         try:
             self.poll()
             self.gate.unbar()
+            self.last.has_answered()
             self.write_state(True)
             return True
         except RulesAreGone as fault:
@@ -284,15 +297,55 @@ class Agent:
         except Refused as refusal:
             complain("the desk refuses: " + refusal.word)
             if refusal.word != "no_memory":     # a desk short of memory for a moment is as a silent one
-                self.gate.shut()
-                self.write_state(False)
-        except (NoAnswer, OSError) as fault:
+                self.shut()
+        except NoAnswer as fault:
+            if not self.keep():
+                complain(str(fault))
+        except OSError as fault:
             complain(str(fault))
         except (KeyError, TypeError) as fault:
             complain("an answer that the desk does not give: " + repr(fault))
-            self.gate.shut()
-            self.write_state(False)
+            self.shut()
         return False
+
+    def shut(self) -> None:
+        """Blocks all guests, by whatever list they passed."""
+        self.gate.shut()
+        self.last.open()
+        self.write_state(False)
+
+    def close_desk(self) -> bool:
+        """Before the server is stopped in order: takes the list that is newer than any command. Whether
+        guests go on by it."""
+        try:
+            self.last.close()
+            if self.try_poll():
+                self.last.is_taken()
+                complain("the server is stopped: the sessions go on for a minute at most, each to its own "
+                         "end")
+                return True
+            self.last.open()
+        except OSError as fault:
+            complain(str(fault))
+        return False
+
+    def keep(self) -> bool:
+        """While the server is silent after an orderly stop: lets those sessions of its last list pass that
+        have not ended. Whether there is such a list."""
+        try:
+            if not self.last.is_kept():
+                return False
+            passing = self.gate.passing()
+            over = self.last.over(passing)
+            self.unreported.update({passing[mac].session: passing[mac].used for mac in over})
+            self.ended.update({(mac, passing[mac].session): passing[mac].used for mac in over})
+            self.known = None
+            self.change(over, {})
+        except OSError as fault:
+            complain(str(fault))
+            return False
+        self.write_state(True)
+        return True
 
     def load_rules(self) -> None:
         """Loads the rules after somebody's flush; forwarding stays off until a good poll."""
@@ -319,14 +372,25 @@ def knock_socket(path: str) -> socket.socket:
     return knocks
 
 
-def wait_for_knock(knocks: socket.socket, seconds: float) -> None:
-    """Waits until somebody knocks or the time is over; all knocks so far count as one."""
-    if select.select([knocks], [], [], seconds)[0]:
+def wait_for_knock(knocks: socket.socket, seconds: float, stops: socket.socket | None = None) -> bool:
+    """Waits until somebody knocks or the time is over; all knocks so far count as one. Whether somebody asked
+    meanwhile at the other socket, before the server is stopped."""
+    ready = select.select([knocks, stops] if stops else [knocks], [], [], seconds)[0]
+    if knocks in ready:
         try:
             while knocks.recv(16):
                 pass
         except BlockingIOError:
             pass
+    return stops in ready
+
+
+def answer_stop(stops: socket.socket, agent: Agent) -> None:
+    """Answers the server's parent, which waits with the stop until then."""
+    with stops.accept()[0] as link:
+        if doors.is_asked_by(link, "portal") and agent.close_desk():
+            with contextlib.suppress(OSError):
+                link.sendall(b"k")
 
 
 def main() -> None:
@@ -337,16 +401,19 @@ def main() -> None:
     conf = settings("/etc/portal/gateway.toml")
     desk = Desk(conf["desk_port"], credential("gateway_token"), timeout=conf["poll_seconds"] * 2)
     gate = KernelGate(conf["lan"], conf["grace_seconds"], conf["rules"])
-    agent = Agent(desk, gate, conf.get("snapshot"), conf["quiet_seconds"], conf["time_quiet_seconds"])
+    agent = Agent(desk, gate, conf.get("snapshot"), conf["quiet_seconds"], conf["time_quiet_seconds"],
+                  kept=last_list.CLOSED - conf["grace_seconds"])
     knocks = knock_socket(conf["knock"])
+    stops = doors.listening(conf["stops"]) if "stops" in conf else None
     notify_systemd(b"READY=1")
     while True:
         start = time.monotonic()
         good = agent.try_poll()
         notify_systemd(b"WATCHDOG=1")     # after each poll: an agent that hangs is killed and started again
         time.sleep(0.05)        # knocks cannot make it spin
-        if not (good and agent.has_postponed):
-            wait_for_knock(knocks, max(0.0, conf["poll_seconds"] - (time.monotonic() - start)))
+        pause = 0.0 if good and agent.has_postponed else conf["poll_seconds"] - (time.monotonic() - start)
+        if wait_for_knock(knocks, max(0.0, pause), stops) and stops:
+            answer_stop(stops, agent)
 
 
 if __name__ == "__main__":

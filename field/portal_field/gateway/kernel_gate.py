@@ -2,6 +2,7 @@
 
 from __future__ import annotations
 
+import contextlib
 import functools
 import os
 import pathlib
@@ -15,7 +16,7 @@ from typing import TYPE_CHECKING
 import nftables
 
 from portal_field.gateway.kernel_sets import (
-    ALIVE, BARRED, DOWN, LISTED, READY, UP, KernelSets, element, flush)
+    ALIVE, BARRED, DESK_CLOSED, DOWN, LISTED, READY, UP, KernelSets, element, flush)
 from portal_field.gateway.passing import NotReady, Passing, RulesAreGone
 
 if TYPE_CHECKING:
@@ -162,6 +163,21 @@ class KernelGate(KernelSets):
             (NET / "ipv4/ip_forward").write_text("1\n")
             self.run([element(verb, BARRED, self.lan) for verb in ("add", "delete")])
             self.is_barred = False
+
+    def close_desk(self, seconds: int) -> None:
+        """Lets none but the agent and the server's watch connect to the desk, for so many seconds."""
+        closed = {"elem": {"val": "lo", "timeout": seconds}}
+        self.run([element("add", DESK_CLOSED, closed), element("delete", DESK_CLOSED, "lo"),
+                  element("add", DESK_CLOSED, closed)])
+
+    def open_desk(self) -> None:
+        """Lets all parts connect again. Rules of an earlier version have no such set, and close nothing."""
+        with contextlib.suppress(RulesAreGone):
+            self.run([element("add", DESK_CLOSED, "lo"), element("delete", DESK_CLOSED, "lo")])
+
+    def is_desk_closed(self) -> bool:
+        """Whether the desk is closed still."""
+        return any(self.elements(DESK_CLOSED))
 
     def shut(self) -> None:
         """Empties the set without which nobody passes."""

@@ -12,7 +12,7 @@ from portal_field.gateway.passing import RulesAreGone
 
 UP, DOWN, ALIVE = ("inet", "portal", "up"), ("netdev", "portal", "down"), ("inet", "portal", "alive")
 BARRED, LISTED = ("inet", "portal", "barred"), ("netdev", "portal", "listed")
-READY = ("inet", "portal", "bound_ready")
+READY, DESK_CLOSED = ("inet", "portal", "bound_ready"), ("inet", "portal", "desk_closed")
 # `bound` has devices with their addresses, for packets and for ARP; the last has their addresses alone.
 BOUND = ("inet", "portal", "bound"), ("netdev", "portal", "bound")
 LEASED = ("netdev", "portal", "leased")

@@ -14,7 +14,7 @@ from typing import Any
 import nftables
 
 from portal_field.gateway.kernel_sets import (
-    ALIVE, BARRED, BOUND, DOWN, LEASED, READY, UP, BoundInKernel, Pair, SetName)
+    ALIVE, BARRED, BOUND, DESK_CLOSED, DOWN, LEASED, READY, UP, BoundInKernel, Pair, SetName)
 from portal_field.gateway.passing import RulesAreGone
 
 CARRIED = "carried"         # the mark of `bound_ready`: portal-leases then looks at `bound` as a whole
@@ -57,11 +57,11 @@ class Before:
                 count = e.get("counter", NOTHING)
                 words = f'{e["val"]} counter packets {count["packets"]} bytes {count["bytes"]}{suffix}'
                 yield add_command(where, words)
-        alive = self.elements(ALIVE)
-        for e in alive:
+        alive, closed = self.elements(ALIVE), self.elements(DESK_CLOSED)
+        for where, e in (*((ALIVE, e) for e in alive), *((DESK_CLOSED, e) for e in closed)):
             # whole seconds: none of them is added; what has no end is nobody's of ours
             if e.get("expires", 0) > 0:
-                yield add_command(ALIVE, f'"{e["val"]}" timeout {e["timeout"]}s expires {e["expires"]}s')
+                yield add_command(where, f'"{e["val"]}" timeout {e["timeout"]}s expires {e["expires"]}s')
         for e in self.elements(BARRED):
             yield add_command(BARRED, f'"{e["val"]}"')
         if alive or self.elements(READY):       # else nobody passes, and portal-leases fills `bound` first

@@ -1,7 +1,8 @@
 """Runs the server: once the machine's time is right, ended where the clock is set, started again where it
 hangs.
 
-    python3 -m portal_field.server.parent [--portal "CMD .."] --port N --db FILE --settings FILE
+    python3 -m portal_field.server.parent [--portal "CMD .."] [--gateway SOCKET] --port N --db FILE
+    --settings FILE
 
 It is the unit's first process and the server's parent, so that what holds the server still (`systemctl
 freeze`) holds this watch still too. A server that ends ends this program, and systemd starts both anew; where
@@ -11,10 +12,12 @@ that can never help the status is 78, which systemd takes as the last word.
 from __future__ import annotations
 
 import argparse
+import contextlib
 import os
 import pathlib
 import shlex
 import signal
+import socket
 import subprocess
 import sys
 import threading
@@ -30,6 +33,7 @@ from portal_field.server.right_time import BELIEVED, Clock
 
 TICK = 0.1          # seconds between two looks at the clock while the server runs
 AGAIN = 0.5         # and while it waits for the time
+LAST_LIST = 5.0     # for which a stop waits for the gateway agent
 NOBODY = "02:00:00:00:00:00"    # a device of no guest
 NEVER, HUNG = 78, 75            # statuses: EX_CONFIG, which is not started again; EX_TEMPFAIL
 # What the program says where no new start can help, and what does.
@@ -94,8 +98,8 @@ class Watch(threading.Thread):
 class Server:
     """The server as a process that this one starts and ends."""
 
-    def __init__(self, words: list[str], clock: Clock, desk: Desk, notes: Notes) -> None:
-        self.words, self.clock, self.desk, self.notes = words, clock, desk, notes
+    def __init__(self, words: list[str], clock: Clock, desk: Desk, notes: Notes, gateway: str = "") -> None:
+        self.words, self.clock, self.desk, self.notes, self.gateway = words, clock, desk, notes, gateway
         self.fault = ""             # the program's last word of a fault
         self.watch: Watch | None = None
 
@@ -148,11 +152,23 @@ class Server:
                         return self.hangs()
                 reader.join()
                 return self.ends(job.wait())
+            except SystemExit:      # systemd stops the unit
+                self.ask_gateway()
+                raise
             finally:
                 job.kill()          # nothing that was answered is lost by it
                 reader.join(5)
                 if self.watch:
                     self.watch.over.set()
+
+    def ask_gateway(self) -> None:
+        """Before the server is stopped: waits until the gateway agent has taken its last list, where there is
+        an agent."""
+        with contextlib.suppress(OSError), socket.socket(socket.AF_UNIX) as link:
+            link.settimeout(LAST_LIST)
+            if self.gateway:
+                link.connect(self.gateway)
+                link.recv(1)
 
     def hangs(self) -> int:
         """Says that the server does not answer; the status with which this process then ends."""
@@ -192,6 +208,7 @@ def main() -> int:
     words.add_argument("--port", type=int, required=True)
     words.add_argument("--db", type=pathlib.Path, required=True)
     words.add_argument("--settings", required=True)
+    words.add_argument("--gateway", default="", help="the socket at which the gateway agent hears of a stop")
     words.add_argument("--notes", default="/run/portal-clock", help="the folder of the notes about the clock")
     args = words.parse_args()
     signal.signal(signal.SIGTERM, end)
@@ -205,7 +222,7 @@ def main() -> int:
     status = 0
     try:
         clock = Clock(believed, notes, args.db, steps=Steps(args.db.with_name(FILE)))
-        status = Server(line, clock, Desk(args.port), notes).run()
+        status = Server(line, clock, Desk(args.port), notes, args.gateway).run()
     finally:
         if status != NEVER:
             notes.drop("state")

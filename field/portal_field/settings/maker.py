@@ -181,6 +181,7 @@ class Maker:
                                          "time_quiet_seconds": field.time_quiet_seconds,
                                          "grace_seconds": field.grace_seconds,
                                          "knock": knock, "snapshot": snapshot,
+                                         "stops": run + "/portal-gateway/stops",
                                          "rules": str(self.etc / "rules.nft")})
         network = ipaddress.IPv4Interface(field.guests).network
         self.write_toml("leases.toml", {"lan": field.lan, "network": str(network), "leases": self.leases})
