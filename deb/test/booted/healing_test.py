@@ -41,6 +41,19 @@ def test_killed(venue: None, unit: str, works: Callable[[], bool]) -> None:
     assert took is not None, f"kill -9 of {unit}: it starts again by itself  [{state}]"
 
 
+def test_stopped_in_order(venue: None) -> None:
+    """The server starts again later than the grace of five seconds."""
+    sh("systemctl stop portal")
+    time.sleep(8)
+    seen, words = passes(), sh("portal-doctor --all").stdout
+    sh("systemctl start portal")
+    took = goes_on(20)
+    assert seen and took is not None, "a guest with a session goes on while the server is stopped in order, and after its start"
+    assert "the sessions go on without it for a minute at most" in words, "and the doctor says so"
+    assert any("the server is stopped: the sessions go on" in line for line in journal("portal-gateway")), (
+        "and the agent's log")
+
+
 def test_counters_address_comes_late(venue: None) -> None:
     sh("systemctl stop portal-counter-nginx; ip addr del 10.88.0.1/24 dev ctr0; systemctl start "
        "portal-counter-nginx")

@@ -32,6 +32,10 @@ def test_logs_rotate(venue: None) -> None:
     assert faults == [], "log rotation reads every file"
     sh("systemctl start logrotate.service")
     result = show("logrotate", "Result")
+    calendar = sh("systemctl show --property TimersCalendar logrotate.timer").stdout
+    assert "*-*-* *:00:00" in calendar, f"it runs each hour  [{calendar}]"
+    sh(f"truncate -s 51M {LOGS}/counter.log; systemctl start logrotate.service")
+    assert log_sizes().get("counter.log", 0) < 1 << 20, f"a log of 51 MB is rotated before its week is over  [{log_sizes()}]"
     sh("logrotate -f /etc/logrotate.conf 2>&1")
     took = until(lambda: log_sizes().get("counter.log", 0) > 0, 5)
     sh("systemctl reset-failed logrotate")
