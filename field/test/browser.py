@@ -185,6 +185,11 @@ class Browser:
     def open(self, url: str) -> None:
         """Opens an address, and waits until the page is loaded."""
         self.driver.get(url)
+        self.focuses()
+
+    def focuses(self) -> None:
+        """Waits until a field that asks for the focus has it: Chromium gives it some time after the page is loaded."""
+        wait_until(lambda: self.ask("return !document.querySelector('[autofocus]') || document.activeElement !== document.body"), 2)
 
     def ask(self, script: str, *values: Any) -> Any:
         """The value that a script returns in the page."""
@@ -216,6 +221,7 @@ class Browser:
 
         if not wait_until(is_there, 10):
             raise AssertionError("no page came")
+        self.focuses()
 
     @property
     def title(self) -> str:
