@@ -13,7 +13,7 @@ import pytest
 from booted import Levels
 from machine import (
     COPIES, DATABASE, Done, all_run, code, install, installed, look_up, output, passes, request_text,
-    sessions, sh, until, versions)
+    serves, sessions, sh, until, versions)
 from schema_versions import take_back
 
 pytestmark = pytest.mark.container
@@ -94,7 +94,7 @@ def test_index_of_others(before: Before) -> None:
 def upgrade(before: Before) -> Done:
     done = install(versions()[1])
     sh("systemctl start portal")
-    until(lambda: all_run() and passes(), 30)
+    until(lambda: all_run() and serves() and passes(), 30)
     return done
 
 
