@@ -336,13 +336,17 @@ ASKS = """import socket, sys
 with socket.socket(socket.AF_UNIX) as link:
     link.settimeout(5)
     link.connect(sys.argv[1])
-    print(link.recv(1).decode())
+    link.sendall(sys.argv[2].encode())
+    try:
+        print(link.recv(1).decode())
+    except ConnectionResetError:
+        print()
 """
 
 
 def stop_in_order(lab: GatewayLab) -> str:
     """Stops the server as its parent does, which asks the agent first; what the agent answers."""
-    answer = lab.within("gw", PYTHON, "-c", ASKS, lab.root / "run/portal-gateway/stops").stdout.strip()
+    answer = lab.within("gw", PYTHON, "-c", ASKS, lab.root / "run/portal-gateway/stops", "stop").stdout.strip()
     lab.stop("desk", kill=True)
     return answer
 
@@ -360,8 +364,10 @@ def test_started_again(lab: GatewayLab) -> None:
             lab.redeem(guest, lab.codes(plan, 1)[0])
         lab.until(lambda: lab.reaches(guest), 6, "packets")
     strangers = lab.within("gw", "setpriv", f"--reuid={USERS['front'][0]}", "--regid=7001", "--clear-groups", PYTHON, "-c", ASKS,
-                           lab.root / "run/portal-gateway/stops").stdout.strip()
+                           lab.root / "run/portal-gateway/stops", "stop").stdout.strip()
     assert strangers == "" and connects(lab, 0), "another part of the venue, as the guests' page, closes nothing"
+    silent = lab.within("gw", PYTHON, "-c", ASKS, lab.root / "run/portal-gateway/stops", "").stdout.strip()
+    assert silent == "" and connects(lab, 0), "nor does one that only connects, as whoever looks at what it can open"
     assert stop_in_order(lab) == "k", "the agent takes its last list"
     load = ("python3", "-P", "-m", "portal_field.gateway.rules", "lan0", lab.root / "etc/portal/rules.nft")
     lab.within("gw", "env", f"PYTHONPATH={FIELD}", "PYTHONDONTWRITEBYTECODE=1", *load)      # as a reload meanwhile

@@ -379,8 +379,8 @@ class Runs(Folder):
             self.assertTrue(self.until(self.answers))
             job.terminate()
             asked = False
-            with contextlib.suppress(TimeoutError), door.accept()[0] as link:
-                asked = self.answers()
+            with contextlib.suppress(OSError), door.accept()[0] as link:
+                asked = self.answers() and link.recv(16) == b"stop"
                 link.sendall(b"k")
             self.assertTrue(asked)
             self.assertEqual(job.wait(60), 0)

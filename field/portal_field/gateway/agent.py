@@ -29,6 +29,7 @@ MOST_REPORTS = 50       # a poll; the others wait for the next, which then comes
 LONGEST = 3.0           # seconds that a poll spends on reports, since the list that it works on grows old
 # seconds after which a report that the desk answered renews the kernel's timeout again
 RENEWED = 1.0
+SAYS_SO = 1.0           # seconds that one who asks has to say what
 # The kernel's counts are read as a whole each READ_PART seconds for each device that passes, at most each
 # LONGEST_READ: in a small venue at each poll. In between a count is asked for alone where it matters: that of
 # a session that ends, and of one that may use its last bytes before the next whole reading.
@@ -386,11 +387,11 @@ def wait_for_knock(knocks: socket.socket, seconds: float, stops: socket.socket |
 
 
 def answer_stop(stops: socket.socket, agent: Agent) -> None:
-    """Answers the server's parent, which waits with the stop until then."""
-    with stops.accept()[0] as link:
-        if doors.is_asked_by(link, "portal") and agent.close_desk():
-            with contextlib.suppress(OSError):
-                link.sendall(b"k")
+    """Answers the server's parent, which waits with the stop until then. Who only connects asks nothing."""
+    with stops.accept()[0] as link, contextlib.suppress(OSError):
+        link.settimeout(SAYS_SO)
+        if doors.is_asked_by(link, "portal") and link.recv(16) == doors.STOP and agent.close_desk():
+            link.sendall(b"k")
 
 
 def main() -> None:

@@ -17,6 +17,7 @@ from collections.abc import Callable
 from typing import Any
 
 PATIENCE = 5.0      # seconds for the whole of a request
+STOP = b"stop"      # what the server's parent says to the gateway agent
 Answer = dict[str, Any]
 
 

@@ -24,6 +24,7 @@ import threading
 import time
 from typing import Any, NoReturn
 
+from portal_field.lib import doors
 from portal_field.lib.desk_client import Desk, NoAnswer, Refused, Routes, settings
 from portal_field.lib.local_time import clock as local, use_zone
 from portal_field.lib.machine_time import Notes
@@ -168,6 +169,7 @@ class Server:
             link.settimeout(LAST_LIST)
             if self.gateway:
                 link.connect(self.gateway)
+                link.sendall(doors.STOP)
                 link.recv(1)
 
     def hangs(self) -> int:
